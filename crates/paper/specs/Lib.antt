@@ -1,0 +1,13 @@
+pub mod Words
+pub mod Rows
+pub mod Answers
+pub mod Checks
+pub mod Build
+pub mod Unite
+pub mod Shrink
+pub mod Predict
+pub mod Explain
+pub mod Text
+pub mod Tabrep
+pub mod Lists
+pub mod Cases

@@ -1,0 +1,10 @@
+-- The bytes of a word.
+use Prim.Native.Nat.{ℕ}
+use Prim.Native.String.{String, [], _∷_}
+use Prim.Native.Char.{code}
+use mathlib.Core.List as list
+use mathlib.Core.List.{List}
+
+unfoldable pub bytes : String → List ℕ
+bytes [] = list.[]
+bytes (c ∷ s) = list._∷_ (code c) (bytes s)
