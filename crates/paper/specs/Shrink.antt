@@ -18,13 +18,10 @@ pub record Node : Type 0 where
   pub production : Option ℕ
   pub rows : List (ℕ × ℕ)
 
--- A state's production: prod0 for 0, which no row leads into; else that of any row into it.
-unfoldable pub production-of : Table → ℕ → Option ℕ
-production-of t s = go (t .rows)
-  where
-    go : List Row → Option ℕ
-    go [] = t .prod0
-    go (r ∷ rs) = cond (eqb (r .to) s) (r .production) (go rs)
+-- A state's production: that of a row into it; prod0 for 0, which no row of a ruled table leads into.
+unfoldable pub production-of : Option ℕ → List Row → ℕ → Option ℕ
+production-of prod0 [] s = prod0
+production-of prod0 (r ∷ rs) s = cond (eqb (r .to) s) (r .production) (production-of prod0 rs s)
 
 -- The rows of a state.
 unfoldable pub rows-of : List Row → ℕ → List (ℕ × ℕ)
@@ -33,7 +30,9 @@ rows-of (r ∷ rs) s = cond (eqb (r .from) s) ((r .terminal, r .to) ∷ rows-of 
 
 -- The states of a table, rising.
 unfoldable pub nodes : Table → List Node
-nodes t = map (λ s. record { state = s; production = production-of t s; rows = rows-of (t .rows) s }) (states (t .rows))
+nodes t =
+    map (λ s. record { state = s; production = production-of (t .prod0) (t .rows) s; rows = rows-of (t .rows) s })
+    (states (t .rows))
 
 -- Rows lead to other states.
 unfoldable pub redirect : (ℕ → ℕ) → List (ℕ × ℕ) → List (ℕ × ℕ)
@@ -91,20 +90,25 @@ unfoldable pub highest-rows : ℕ → List (ℕ × ℕ) → List Node → List (
 highest-rows q rs [] = rs
 highest-rows q rs (n ∷ ns) = highest-rows q (cond (accepts q n) (n .rows) rs) ns
 
+-- The production of a state among some.
+unfoldable pub node-production : List Node → ℕ → Option ℕ
+node-production [] s = none
+node-production (n ∷ ns) s = cond (eqb (n .state) s) (n .production) (node-production ns s)
+
 -- The state that a state becomes.
 unfoldable pub becomes : List Node → ℕ → ℕ
-becomes all s = go all
-  where
-    go : List Node → ℕ
-    go [] = s
-    go (n ∷ ns) = cond (eqb (n .state) s) (elim (n .production) [ none ↦ s | some q ↦ lowest q all ]) (go ns)
+becomes all s = elim (node-production all s) [ none ↦ s | some q ↦ lowest q all ]
 
 unfoldable pub gather : List Node → List Node → List Node
 gather all [] = []
 gather all (n ∷ ns) = elim (n .production) [
   | none ↦ lead (becomes all) n ∷ gather all ns
   | some q ↦ cond (eqb (lowest q all) (n .state))
-      (record { state = n .state; production = some q; rows = redirect (becomes all) (highest-rows q [] all) } ∷ gather all ns)
+      (record {
+        state = n .state;
+        production = some q;
+        rows = redirect (becomes all) (highest-rows q [] all);
+      } ∷ gather all ns)
       (gather all ns)
 ]
 
@@ -119,10 +123,6 @@ gathered Intake ns = ns
 unfoldable pub place : List Node → ℕ → ℕ
 place [] s = 0
 place (n ∷ ns) s = cond (ltb (n .state) s) (suc (place ns s)) (place ns s)
-
-unfoldable pub node-production : List Node → ℕ → Option ℕ
-node-production [] s = none
-node-production (n ∷ ns) s = cond (eqb (n .state) s) (n .production) (node-production ns s)
 
 -- The rows of the states that stay, reached or not.
 unfoldable pub node-rows : List Node → List Node → List Row
