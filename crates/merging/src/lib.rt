@@ -1,0 +1,1 @@
+// Theorems only: merging equal states is the quotient by marks.

@@ -1,0 +1,1 @@
+// Document 01, module 1: the checks, the rows of a state, state counts.
