@@ -1,0 +1,91 @@
+-- Keys rise along rows that passed 1 to 3, and the two ends between which the binary search looks.
+-- Assumes nothing.
+use mathlib.Core.Path.{_≡_, refl, sym, ap, _∙_}
+use mathlib.Core.Bool.{Bool, true}
+use mathlib.Core.List.{List}
+use Prim.Native.Nat.{ℕ, zero, suc, _+_, _-_, _*_, _/_, _≤_, _<_}
+use native.Mathlib.Omega.{arith}
+use native.Mathlib.Numerals.{add-one}
+use borrow.Author.Tests.{ltb-true}
+use lib.Dec.{ltb}
+use lib.ListN.{length}
+use lib.IntN.{ℤ}
+use Rattle.paper.specs.Checks.{rising}
+use Rattle.rows.specs.Places.{row-at, rest, key}
+use Rattle.rows.specs.Search.{Passed, Lower}
+use Rattle.rows.proofs.Rest.{both, by-place}
+use Rattle.rows.proofs.Keys.{compared, rising-key, rising-end}
+
+module _ {ns : List ℤ} (p : Passed ns) where
+  rises-from : (i : ℕ) → rising (rest ns i) ≡ true
+  rises-from zero = p .rises
+  rises-from (suc i) = by-place ns (suc i) (λ l. there l (rises-from i)) (λ l. rising-end ns (suc i) (omega arith))
+    where
+      there : suc i * 4 + 3 < length ns → rising (rest ns i) ≡ true → rising (rest ns (suc i)) ≡ true
+      there l e =
+          let t = ltb (key (row-at ns i)) (key (row-at ns (i + 1))) in
+          rw add-one at (both t (rising (rest ns (i + 1))) (sym (rising-key ns i (p .fits) (omega arith)) ∙ e) .1)
+
+  key-next : (i : ℕ) → i * 4 + 7 < length ns → key (row-at ns i) < key (row-at ns (i + 1))
+  key-next i l =
+      ltb-true _ _ (both _ (rising (rest ns (i + 1))) (sym (rising-key ns i (p .fits) l) ∙ rises-from i) .0)
+
+  keys-on : (d i : ℕ) → (i + suc d) * 4 + 3 < length ns → key (row-at ns i) < key (row-at ns (i + suc d))
+  keys-on zero i l =
+      let e : i + suc zero ≡ i + 1 = omega arith in rw e (key-next i (omega arith))
+  keys-on (suc d) i l =
+      let e : i + suc (suc d) ≡ i + suc d + 1 = omega arith in
+      let a = keys-on d i (omega arith) in
+      let b = key-next (i + suc d) (omega arith) in
+      rw e (omega (arith, a, b))
+
+  -- a lower row has a lower key
+  pub keys-rise : (i j : ℕ) → i < j → j < length ns / 4 → key (row-at ns i) < key (row-at ns j)
+  keys-rise i j h l =
+      let e : i + suc (j - i - 1) ≡ j = omega arith in
+      rw e at (keys-on (j - i - 1) i (omega arith))
+
+-- all rows before low are below x, and all from high on are at least x
+pub record Bracket (ns : List ℤ) (x low high : ℕ) : Type 0 where
+  pub ordered : low ≤ high
+  pub within : high ≤ length ns / 4
+  pub below : (j : ℕ) → j < low → key (row-at ns j) < x
+  pub above : (j : ℕ) → high ≤ j → j < length ns / 4 → x ≤ key (row-at ns j)
+
+pub opened : (ns : List ℤ) (x n : ℕ) → n ≡ length ns / 4 → Bracket ns x 0 n
+opened ns x n e = record {
+  ordered = omega arith;
+  within = omega arith;
+  below = λ j l. absurd (omega arith);
+  above = λ j l m. absurd (omega arith);
+}
+
+module _ {ns : List ℤ} {x low high : ℕ} (p : Passed ns) (b : Bracket ns x low high) (m : ℕ) (h : m < high) where
+  pub raised : key (row-at ns m) < x → Bracket ns x (m + 1) high
+  raised l = record {
+    ordered = omega arith;
+    within = b .within;
+    below = λ j k. compared j m
+        (λ q. omega (arith, keys-rise p j m q (omega (arith, b .within))))
+        (λ q. omega (arith, ap (λ (i : ℕ). key (row-at ns i)) q))
+        (λ q. absurd (omega arith));
+    above = b .above;
+  }
+
+  pub sunk : low ≤ m → x ≤ key (row-at ns m) → Bracket ns x low m
+  sunk k l = record {
+    ordered = k;
+    within = omega (arith, b .within);
+    below = b .below;
+    above = λ j q n. compared m j
+        (λ d. omega (arith, keys-rise p m j d n))
+        (λ d. omega (arith, ap (λ (i : ℕ). key (row-at ns i)) d))
+        (λ d. absurd (omega arith));
+  }
+
+pub met : {ns : List ℤ} {x low high : ℕ} → Bracket ns x low high → high ≤ low → Lower ns x low
+met b h = record {
+  within = omega (arith, b .ordered, b .within);
+  below = b .below;
+  above = λ j l n. b .above j (omega arith) n;
+}

@@ -1,0 +1,35 @@
+-- What the search in rows that passed 1 to 3 answers.
+use mathlib.Core.Path.{_≡_}
+use mathlib.Core.Bool.{true}
+use mathlib.Core.Option.{none, some}
+use mathlib.Core.List.{List}
+use Prim.Native.Nat.{ℕ, _+_, _*_, _/_, _≤_, _<_}
+use lib.ListN.{length}
+use lib.IntN.{ℤ}
+use Rattle.paper.specs.Rows.{rows-in, find, begin, leaving}
+use Rattle.paper.specs.Checks.{every, row-fits, rising}
+use Rattle.rows.specs.Places.{row-at, key}
+use Rattle.rows.specs.declared.search.Found.{Found}
+use Rattle.rows.specs.declared.search.Found.the-variants.{At, Missing}
+
+-- The rows of a slice passed 2 and 3.
+pub record Passed (ns : List ℤ) : Type 0 where
+  pub fits : every row-fits (rows-in ns) ≡ true
+  pub rises : rising (rows-in ns) ≡ true
+
+-- i is the first row whose key is at least x.
+pub record Lower (ns : List ℤ) (x i : ℕ) : Type 0 where
+  pub within : i ≤ length ns / 4
+  pub below : (j : ℕ) → j < i → key (row-at ns j) < x
+  pub above : (j : ℕ) → i ≤ j → j < length ns / 4 → x ≤ key (row-at ns j)
+
+-- Row i is the row of the state and the terminal; or there is none, and i is where it would go.
+abbrev pub Finds : List ℤ → ℕ → ℕ → Found → Type 0
+Finds ns s t (At i) = (i < length ns / 4) × (find (rows-in ns) s t ≡ some (row-at ns i))
+Finds ns s t (Missing i) = (find (rows-in ns) s t ≡ none) × Lower ns (s * 65536 + t) i
+
+-- Where the rows of a state begin, or its first would go, and how many they are.
+pub record Leaves (ns : List ℤ) (s first count : ℕ) : Type 0 where
+  pub begins : first ≡ begin (rows-in ns) s
+  pub counts : count ≡ leaving (rows-in ns) s
+  pub within : first + count ≤ length ns / 4

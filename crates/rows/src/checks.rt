@@ -1,0 +1,97 @@
+// The checks 1 to 7: each true when it refuses.
+use crate::numbers;
+
+ghost use mathlib.Core.Path.{_≡_};
+ghost use mathlib.Core.Bool.{true};
+ghost use Prim.Native.Nat.{_+_, _*_, _<_, _≤_};
+ghost use lib.ListN.{length};
+ghost use Rattle.paper.specs.Rows.{rows-in, table};
+ghost use Rattle.paper.specs.Checks.{row-slice, row-fits, every, range, order, shape};
+ghost use Rattle.rows.specs.Places.{row-at, bare};
+
+// 1 LENGTH, of a row slice.
+pub fn row_slice(rows: &[i32]) -> bool
+    ensures { λ r. ⌜ r ≡ row-slice (now (rows .entry)) ⌝ }
+{
+    let n = rows.len();
+    if n % 4 != 0 {
+        return true;
+    }
+    16384 < n
+}
+
+// Row i's numbers are within their bounds.
+fn row_fits(rows: &[i32], i: usize) -> bool
+    requires { ⌜ i * 4 + 3 < length (now rows) ⌝ }
+    ensures { λ r. ⌜ r ≡ row-fits (row-at (now (rows .entry)) i) ⌝ }
+{
+    if 1023 < numbers::from_at(rows, i) {
+        return false;
+    }
+    if 65535 < numbers::terminal_at(rows, i) {
+        return false;
+    }
+    if 1023 < numbers::to_at(rows, i) {
+        return false;
+    }
+    numbers::code_at(rows, i) <= 65536
+}
+
+// All rows' numbers are within their bounds.
+pub fn rows_fit(rows: &[i32]) -> bool
+    ensures { λ r. ⌜ r ≡ every row-fits (rows-in (now (rows .entry))) ⌝ }
+{
+    let n = rows.len() / 4;
+    let mut i = 0;
+    while i < n {
+        if !row_fits(rows, i) {
+            return false;
+        }
+        i += 1;
+    }
+    true
+}
+
+// 2 RANGE.
+pub fn range(prod0: i32, k: usize, rows: &[i32]) -> bool
+    ensures { λ r. ⌜ r ≡ range (table prod0 k (now (rows .entry))) ⌝ }
+{
+    if 65536 < numbers::coded(prod0) {
+        return true;
+    }
+    if 16 < k {
+        return true;
+    }
+    !rows_fit(rows)
+}
+
+// 3 ORDER, of rows within their bounds.
+pub fn order(rows: &[i32]) -> bool
+    requires { ⌜ every row-fits (rows-in (now rows)) ≡ true ⌝ }
+    ensures { λ r. ⌜ r ≡ order (bare (now (rows .entry))) ⌝ }
+{
+    let n = rows.len() / 4;
+    let mut i = 1;
+    while i < n {
+        if numbers::key_at(rows, i) <= numbers::key_at(rows, i - 1) {
+            return true;
+        }
+        i += 1;
+    }
+    false
+}
+
+// 4 SHAPE.
+pub fn shape(rows: &[i32]) -> bool
+    ensures { λ r. ⌜ r ≡ shape (bare (now (rows .entry))) ⌝ }
+{
+    let n = rows.len() / 4;
+    let mut i = 0;
+    while i < n {
+        if numbers::to_at(rows, i) <= numbers::from_at(rows, i) {
+            return true;
+        }
+        i += 1;
+    }
+    false
+}

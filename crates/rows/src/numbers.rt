@@ -1,0 +1,84 @@
+// Where a table's i32 numbers become states, terminals and productions, and back.
+ghost use mathlib.Core.Path.{_≡_};
+ghost use mathlib.Core.Option.{Option};
+ghost use Prim.Native.Nat.{_+_, _*_, _<_, _≤_};
+ghost use lib.ListN.{length, getD};
+ghost use lib.IntN.{ℤ, pos};
+ghost use Rattle.paper.specs.Rows.{natural, accepting, signed};
+ghost use Rattle.rows.specs.Places.{Reads, code, uncoded, row-at, key};
+
+// A number that may not be below 0.
+pub fn natural(x: i32) -> usize
+    ensures { λ r. ⌜ Reads (natural x) r ⌝ }
+{
+    if x < 0 { 65536 } else { x as usize }
+}
+
+// A production as a code: 0 for -1, else one more than it.
+pub fn coded(x: i32) -> usize
+    ensures { λ r. ⌜ Reads (code (accepting x)) r ⌝ }
+{
+    if x == -1 {
+        0
+    } else if x < 0 {
+        65537
+    } else {
+        x as usize + 1
+    }
+}
+
+// The number of a state or a terminal, as a table holds it.
+pub fn number_of(n: usize) -> i32
+    requires { ⌜ n ≤ 65535 ⌝ }
+    ensures { λ r. ⌜ r ≡ pos n ⌝ }
+{
+    n as i32
+}
+
+// The production of a code, as a table holds it.
+pub fn production_of(n: usize) -> i32
+    requires { ⌜ n ≤ 65536 ⌝ }
+    ensures { λ r. ⌜ r ≡ signed (uncoded n) ⌝ }
+{
+    if n == 0 { -1 } else { (n - 1) as i32 }
+}
+
+// Row i's from.
+pub fn from_at(rows: &[i32], i: usize) -> usize
+    requires { ⌜ i * 4 + 3 < length (now rows) ⌝ }
+    ensures { λ r. ⌜ Reads (row-at (now (rows .entry)) i .from) r ⌝ }
+{
+    natural(rows[i * 4])
+}
+
+// Row i's terminal.
+pub fn terminal_at(rows: &[i32], i: usize) -> usize
+    requires { ⌜ i * 4 + 3 < length (now rows) ⌝ }
+    ensures { λ r. ⌜ Reads (row-at (now (rows .entry)) i .terminal) r ⌝ }
+{
+    natural(rows[i * 4 + 1])
+}
+
+// Row i's to.
+pub fn to_at(rows: &[i32], i: usize) -> usize
+    requires { ⌜ i * 4 + 3 < length (now rows) ⌝ }
+    ensures { λ r. ⌜ Reads (row-at (now (rows .entry)) i .to) r ⌝ }
+{
+    natural(rows[i * 4 + 2])
+}
+
+// The code of row i's production.
+pub fn code_at(rows: &[i32], i: usize) -> usize
+    requires { ⌜ i * 4 + 3 < length (now rows) ⌝ }
+    ensures { λ r. ⌜ Reads (code (row-at (now (rows .entry)) i .production)) r ⌝ }
+{
+    coded(rows[i * 4 + 3])
+}
+
+// Row i's from and terminal in one number, by which rows rise.
+pub fn key_at(rows: &[i32], i: usize) -> usize
+    requires { ⌜ i * 4 + 3 < length (now rows) ⌝ }
+    ensures { λ r. ⌜ r ≡ key (row-at (now (rows .entry)) i) ⌝ }
+{
+    from_at(rows, i) * 65536 + terminal_at(rows, i)
+}

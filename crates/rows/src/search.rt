@@ -1,0 +1,67 @@
+// The row of a state and a terminal, and the stretch of a state's rows, in rows that passed 1 to 3.
+use crate::numbers;
+
+ghost use mathlib.Core.Path.{_≡_};
+ghost use Prim.Native.Nat.{_+_, _*_, _<_, _≤_, _/_};
+ghost use lib.ListN.{length};
+ghost use Rattle.paper.specs.Rows.{rows-in, begin, leaving};
+ghost use Rattle.rows.specs.Search.{Passed, Lower, Finds, Leaves};
+
+// Where the row of a state and a terminal is, or where it would go.
+pub enum Found {
+    At(usize),
+    Missing(usize),
+}
+
+// Where the rows of a state begin, or its first row would go, and how many they are.
+pub struct Span {
+    pub begin: usize,
+    pub count: usize,
+}
+
+// The first row whose key is at least x; the row count where there is none.
+fn lower(rows: &[i32], x: usize) -> usize
+    requires { ⌜ Passed (now rows) ⌝ }
+    ensures { λ r. ⌜ Lower (now (rows .entry)) x r ⌝ }
+{
+    let mut low = 0;
+    let mut high = rows.len() / 4;
+    while low < high {
+        let middle = low + (high - low) / 2;
+        if numbers::key_at(rows, middle) < x {
+            low = middle + 1;
+        } else {
+            high = middle;
+        }
+    }
+    low
+}
+
+// The row of a state and a terminal.
+pub fn find(rows: &[i32], state: usize, terminal: usize) -> Found
+    requires { ⌜ Passed (now rows) × (state ≤ 65535) × (terminal ≤ 65535) ⌝ }
+    ensures { λ r. ⌜ Finds (now (rows .entry)) state terminal r ⌝ }
+{
+    let x = state * 65536 + terminal;
+    let i = lower(rows, x);
+    if rows.len() / 4 <= i {
+        return Found::Missing(i);
+    }
+    if numbers::key_at(rows, i) == x {
+        return Found::At(i);
+    }
+    Found::Missing(i)
+}
+
+// The rows of a state.
+pub fn leaving(rows: &[i32], state: usize) -> Span
+    requires { ⌜ Passed (now rows) × (state ≤ 65535) ⌝ }
+    ensures { λ r. ⌜ Leaves (now (rows .entry)) state (r .begin) (r .count) ⌝ }
+{
+    let begin = lower(rows, state * 65536);
+    let end = lower(rows, (state + 1) * 65536);
+    Span {
+        begin,
+        count: end - begin,
+    }
+}
