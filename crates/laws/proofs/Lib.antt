@@ -1,1 +1,4 @@
 -- (see the files named below)
+pub mod Tests
+pub mod Every
+pub mod Members

@@ -1,1 +1,12 @@
--- (see the files named below)
+pub mod Equal
+pub mod Redirect
+pub mod Quotient
+pub mod Merging
+pub mod Unique
+pub mod Ends
+pub mod ByMarks
+pub mod Accepting
+pub mod Gather
+pub mod Gathered
+pub mod States
+pub mod Ruled

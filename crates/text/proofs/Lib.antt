@@ -1,1 +1,4 @@
--- (see the files named below)
+pub mod Put
+pub mod Digits
+pub mod Written
+pub mod Lined

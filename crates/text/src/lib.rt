@@ -1,1 +1,2 @@
 // Document 01, module 7: tables as text.
+mod writing;

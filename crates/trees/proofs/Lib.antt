@@ -1,1 +1,13 @@
--- (see the files named below)
+pub mod Find
+pub mod Rising
+pub mod Paint
+pub mod Paths
+pub mod Grown
+pub mod Given
+pub mod Tree
+pub mod Words
+pub mod Built
+pub mod Counted
+pub mod Checked
+pub mod Fits
+pub mod BuildSound

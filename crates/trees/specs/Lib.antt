@@ -1,0 +1,4 @@
+pub mod Reach
+pub mod Views
+pub mod Trees
+pub mod Bounds

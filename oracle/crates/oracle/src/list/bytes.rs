@@ -1,0 +1,41 @@
+//! The numbers of a case as bytes.
+
+/// Writes numbers one after the other.
+#[derive(Debug, Default, Clone)]
+pub struct Bytes(pub Vec<u8>);
+
+impl Bytes {
+    /// 7 bits a byte, low first, top bit set if more follow.
+    pub fn unsigned(&mut self, mut number: u64) {
+        while number > 127 {
+            self.0.push(number as u8 | 128);
+            number >>= 7;
+        }
+        self.0.push(number as u8);
+    }
+
+    /// 2x if x is not below 0, else -2x - 1, then as above.
+    pub fn signed(&mut self, number: i32) {
+        let wide = i64::from(number);
+        let turned = if wide >= 0 { 2 * wide } else { -2 * wide - 1 };
+        self.unsigned(turned as u64);
+    }
+
+    /// A count and then each number.
+    pub fn many_signed(&mut self, numbers: &[i32]) {
+        self.unsigned(numbers.len() as u64);
+        numbers.iter().for_each(|&n| self.signed(n));
+    }
+
+    /// A count and then each token.
+    pub fn tokens(&mut self, tokens: &[u16]) {
+        self.unsigned(tokens.len() as u64);
+        tokens.iter().for_each(|&t| self.unsigned(t.into()));
+    }
+
+    /// A count and then each length.
+    pub fn lengths(&mut self, lengths: &[usize]) {
+        self.unsigned(lengths.len() as u64);
+        lengths.iter().for_each(|&l| self.unsigned(l as u64));
+    }
+}

@@ -1,0 +1,188 @@
+//! The committed list is what the generator makes, and reads back by its own README.
+
+use oracle::reading::{self, Answer, Mode, Refusal};
+use oracle::{Lent, Table, list};
+use std::collections::BTreeSet;
+use std::path::PathBuf;
+
+fn folder() -> PathBuf {
+    PathBuf::from(env!("CARGO_MANIFEST_DIR")).join("../../list")
+}
+
+fn committed(name: &str) -> Vec<u8> {
+    std::fs::read(folder().join(format!("{name}.bin"))).unwrap()
+}
+
+#[test]
+fn made_again_it_is_the_same() {
+    let list = list::make();
+    let mut total = 0;
+    for (name, file) in list.files() {
+        assert!(committed(name) == file.bytes, "{name}");
+        total += file.bytes.len();
+    }
+    assert!(total <= 1_200_000);
+    let readme = std::fs::read_to_string(folder().join("README.md")).unwrap();
+    assert!(readme.contains(&list.counts()), "counts in list/README.md");
+}
+
+/// Reads one case's numbers.
+struct Numbers<'a>(&'a [u8]);
+
+impl Numbers<'_> {
+    fn unsigned(&mut self) -> u64 {
+        let (mut number, mut shift) = (0, 0);
+        loop {
+            let byte = self.0[0];
+            self.0 = &self.0[1..];
+            number |= u64::from(byte & 127) << shift;
+            shift += 7;
+            if byte < 128 {
+                return number;
+            }
+        }
+    }
+
+    fn signed(&mut self) -> i32 {
+        let turned = self.unsigned() as i64;
+        let wide = if turned % 2 == 0 {
+            turned / 2
+        } else {
+            -(turned + 1) / 2
+        };
+        wide.try_into().unwrap()
+    }
+
+    fn many<T>(&mut self, mut one: impl FnMut(&mut Self) -> T) -> Vec<T> {
+        let count = self.unsigned();
+        (0..count).map(|_| one(self)).collect()
+    }
+
+    fn tokens(&mut self) -> Vec<u16> {
+        self.many(|n| n.unsigned().try_into().unwrap())
+    }
+
+    fn mode(&mut self) -> Mode {
+        [Mode::Archive, Mode::Intake][self.unsigned() as usize]
+    }
+
+    fn table(&mut self) -> (i32, usize, Vec<i32>) {
+        let (prod0, k) = (self.signed(), self.unsigned() as usize);
+        (prod0, k, self.many(|n| n.signed()))
+    }
+
+    fn answer(&mut self) -> Answer<Table> {
+        match self.unsigned() {
+            0 => {
+                let (prod0, k) = (self.signed(), self.unsigned() as usize);
+                let states = self.unsigned() as usize;
+                let rows = 4 * self.unsigned();
+                let rows = (0..rows).map(|_| self.signed()).collect();
+                Ok(Table {
+                    prod0,
+                    k,
+                    states,
+                    rows,
+                })
+            }
+            8 => Err(Refusal::Clash(
+                self.unsigned() as i32,
+                self.unsigned() as i32,
+            )),
+            number => Err(Refusal::Plain(number)),
+        }
+    }
+}
+
+/// Goes through a file's cases; `one` reads a case after its source and gives the number.
+fn through(name: &str, numbers: &[u64], one: fn(&mut Numbers) -> (Mode, u64)) {
+    let bytes = committed(name);
+    let mut rest = &bytes[..];
+    let mut seen = BTreeSet::new();
+    while !rest.is_empty() {
+        let (count, after) = rest.split_first_chunk::<4>().unwrap();
+        let count = u32::from_le_bytes(*count) as usize;
+        assert!(count <= 120_000);
+        let mut case = Numbers(&after[..count]);
+        let source = case.unsigned();
+        let (mode, number) = one(&mut case);
+        assert!(case.0.is_empty(), "{name}");
+        let domain = number == 0 || (8..=11).contains(&number);
+        assert_eq!(domain && mode == Mode::Archive, source == 1, "{name}");
+        seen.insert(number);
+        rest = &after[count..];
+    }
+    assert_eq!(numbers, seen.into_iter().collect::<Vec<u64>>(), "{name}");
+}
+
+fn number<T>(answer: &Answer<T>) -> u64 {
+    answer.as_ref().err().map_or(0, |r| r.number())
+}
+
+#[test]
+fn builds() {
+    through("build", &[0, 1, 2, 14], |n| {
+        let production = n.signed();
+        let lengths = n.many(|n| n.unsigned() as usize);
+        let (tokens, room) = (n.tokens(), n.unsigned() as usize);
+        let answer = n.answer();
+        let read = reading::build(production, &lengths, &tokens, room);
+        assert_eq!(read, answer);
+        (Mode::Archive, number(&answer))
+    });
+}
+
+#[test]
+fn unites() {
+    through("unite", &[0, 1, 2, 3, 4, 5, 6, 7, 8, 14], |n| {
+        let (mode, a, b) = (n.mode(), n.table(), n.table());
+        let (room, answer) = (n.unsigned() as usize, n.answer());
+        let (a, b) = (Lent::new(a.0, a.1, &a.2), Lent::new(b.0, b.1, &b.2));
+        assert_eq!(reading::unite(mode, a, b, room), answer);
+        (mode, number(&answer))
+    });
+}
+
+#[test]
+fn shrinks() {
+    through("shrink", &[0, 1, 2, 3, 4, 5, 6], |n| {
+        let (mode, a) = (n.mode(), n.table());
+        let (room, answer) = (n.unsigned() as usize, n.answer());
+        let a = Lent::new(a.0, a.1, &a.2);
+        assert_eq!(reading::shrink(mode, a, room), answer);
+        (mode, number(&answer))
+    });
+}
+
+#[test]
+fn predicts() {
+    through("predict", &[0, 1, 2, 3, 9, 10, 11, 12], |n| {
+        let (mode, a) = (n.mode(), n.table());
+        let (stream_k, tokens) = (n.unsigned() as usize, n.tokens());
+        let answer = match n.unsigned() {
+            0 => Ok((n.unsigned() as i32, n.unsigned() as usize)),
+            number => Err(Refusal::Plain(number)),
+        };
+        let a = Lent::new(a.0, a.1, &a.2);
+        assert_eq!(reading::predict(mode, a, stream_k, &tokens), answer);
+        (mode, number(&answer))
+    });
+}
+
+#[test]
+fn explains() {
+    through("explain", &[0, 1, 2, 3], |n| {
+        let (a, tokens) = (n.table(), n.tokens());
+        let matched = match n.unsigned() {
+            0 => Ok(n.unsigned() as usize),
+            number => Err(Refusal::Plain(number)),
+        };
+        let (start, count) = (n.unsigned() as usize, n.unsigned() as usize);
+        let read = reading::explain(Lent::new(a.0, a.1, &a.2), &tokens);
+        assert_eq!(
+            (read.matched, read.start, read.count),
+            (matched, start, count)
+        );
+        (Mode::Archive, number(&matched))
+    });
+}

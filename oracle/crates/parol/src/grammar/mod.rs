@@ -1,0 +1,3 @@
+//! Stand-in for `grammar/mod.rs`.
+
+pub mod cfg;

@@ -1,0 +1,1 @@
+//! Stand-in for `utils/str_iter.rs`: nothing of it is used here.
