@@ -5,3 +5,4 @@ pub mod Keys
 pub mod Bracket
 pub mod Found
 pub mod Counted
+pub mod Judged

@@ -2,3 +2,4 @@
 pub mod checks;
 pub mod numbers;
 pub mod search;
+pub mod verdict;

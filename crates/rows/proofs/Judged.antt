@@ -1,0 +1,92 @@
+-- What a verdict says of the call that it stands in, and what a pass says of each check.
+-- Assumes nothing.
+use mathlib.Core.Path.{_≡_, refl, sym, ap, _∙_}
+use mathlib.Core.Bool.{Bool, true, false, cond, not, _&&_}
+use mathlib.Core.List.{List, [], _∷_}
+use Prim.Native.Nat.{ℕ}
+use native.Mathlib.Omega.{arith}
+use lib.Dec.{leb}
+use lib.IntN.{ℤ}
+use mir.Syntax.{w32}
+use mir.Val.{SFits, toZ, ofZ}
+use mir.Facts.{toZ-ofZ}
+use Rattle.paper.specs.Rows.{Table, rows-in, table}
+use Rattle.paper.specs.declared.Refusal.{Refusal}
+use Rattle.paper.specs.Answers.{Ruling, accept, refuse, then, number, detail}
+use Rattle.paper.specs.Checks.{first, every, row-fits, rising, production-fits, range, order, plain}
+use Rattle.rows.specs.Search.{Passed}
+use Rattle.rows.specs.Verdicts.{follow, Judges}
+use Rattle.rows.specs.declared.verdict.Verdict.{Verdict}
+use Rattle.rows.specs.declared.verdict.Verdict.the-variants.{Pass, Refused}
+use Rattle.rows.proofs.Rest.{both}
+
+module _ {A : Type 0} (x : Ruling A) where
+  first-then : (cs : List (Bool × ℕ)) → first cs x ≡ then {A = ℕ} (first cs (accept 0)) (λ _. x)
+  first-then [] = refl
+  first-then (c ∷ cs) = go (c .0) (first-then cs)
+    where
+      go : (b : Bool) → first cs x ≡ then {A = ℕ} (first cs (accept 0)) (λ _. x)
+          → cond b (refuse (c .1) []) (first cs x)
+          ≡ then {A = ℕ} (cond b (refuse (c .1) []) (first cs (accept 0))) (λ _. x)
+      go true e = refl
+      go false e = e
+
+  follow-then : (v : Verdict) → follow v x ≡ then {A = ℕ} (follow v (accept 0)) (λ _. x)
+  follow-then Pass = refl
+  follow-then (Refused f) = refl
+
+  -- the checks, followed by what is left to do, are the verdict followed by it
+  pub judged : {cs : List (Bool × ℕ)} {v : Verdict} → Judges cs v → first cs x ≡ follow v x
+  judged {cs} {v} j = first-then cs ∙ ap (λ (r : Ruling ℕ). then r (λ _. x)) (j .says) ∙ sym (follow-then v)
+
+-- a verdict is made check by check
+pub done : Judges [] Pass
+done = record { says = refl }
+
+pub refuses : {c : Bool × ℕ} {cs : List (Bool × ℕ)} (f : Refusal) → number f ≡ c .1 → detail f ≡ [] → c .0 ≡ true
+    → Judges (c ∷ cs) (Refused f)
+refuses {c} {cs} f m d e = record { says = rw (e, m, d) }
+
+pub next-check : {c : Bool × ℕ} {cs : List (Bool × ℕ)} {v : Verdict} → c .0 ≡ false → Judges cs v → Judges (c ∷ cs) v
+next-check {c} {cs} {v} e j = record { says = rw e (j .says) }
+
+-- a test of a table whose prod0 was passed on
+pub range-passed : (p : ℤ) (k : ℕ) (ns : List ℤ) (b : Bool) → SFits w32 p → b ≡ range (table (toZ w32 (ofZ w32 p)) k ns)
+    → range (table p k ns) ≡ b
+range-passed p k ns b f e = sym (e ∙ ap (λ (z : ℤ). range (table z k ns)) (toZ-ofZ {w = w32} f))
+
+head-passes : (b : Bool) (n : ℕ) (r : Ruling ℕ) → _≡_ {A = Ruling ℕ} (cond b (refuse n []) r) (accept 0)
+    → (b ≡ false) × (r ≡ accept 0)
+head-passes true n r e = absurd (let z : _≡_ {A = ℕ} 0 1 = cc in omega arith)
+head-passes false n r e = (refl, e)
+
+-- where checks pass, the first does not refuse, and the others pass
+pub passes-first : {c : Bool × ℕ} {cs : List (Bool × ℕ)} → Judges (c ∷ cs) Pass → (c .0 ≡ false) × Judges cs Pass
+passes-first {c} {cs} j =
+    let h = head-passes (c .0) (c .1) (first cs (accept 0)) (j .says) in
+    (h .0, record { says = h .1 })
+
+not-false-is : (b : Bool) → not b ≡ false → b ≡ true
+not-false-is true e = refl
+not-false-is false e = absurd (let z : _≡_ {A = ℕ} 0 1 = cc in omega arith)
+
+-- within RANGE every row is
+pub rows-fit : (t : Table) → range t ≡ false → every row-fits (t .rows) ≡ true
+unfolding range
+rows-fit t e =
+    let b = production-fits (t .prod0) && leb (t .k) 16 in
+    both b (every row-fits (t .rows)) (not-false-is (b && every row-fits (t .rows)) e) .1
+
+pub rows-rise : (t : Table) → order t ≡ false → rising (t .rows) ≡ true
+unfolding order
+rows-rise t e = not-false-is (rising (t .rows)) e
+
+-- a table that passed 2 and 3
+pub passed : (p : ℤ) (k : ℕ) (ns : List ℤ) → range (table p k ns) ≡ false → order (table p k ns) ≡ false → Passed ns
+passed p k ns r o = record { fits = rows-fit (table p k ns) r; rises = rows-rise (table p k ns) o }
+
+pub plain-passed : (p : ℤ) (k : ℕ) (ns : List ℤ) → Judges (plain (table p k ns)) Pass → Passed ns
+plain-passed p k ns j =
+    let a = passes-first j in
+    let b = passes-first (a .1) in
+    passed p k ns (a .0) (b .0)

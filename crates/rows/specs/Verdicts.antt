@@ -1,0 +1,18 @@
+-- What the checks of a call say, as a ruling.
+use mathlib.Core.Path.{_≡_}
+use mathlib.Core.Bool.{Bool}
+use mathlib.Core.List.{List}
+use Prim.Native.Nat.{ℕ}
+use Rattle.paper.specs.Answers.{Ruling, accept, refuse, number, detail}
+use Rattle.paper.specs.Checks.{first}
+use Rattle.rows.specs.declared.verdict.Verdict.{Verdict}
+use Rattle.rows.specs.declared.verdict.Verdict.the-variants.{Pass, Refused}
+
+-- A verdict, followed by what is left to do.
+abbrev pub follow : {A : Type 0} → Verdict → Ruling A → Ruling A
+follow Pass r = r
+follow (Refused f) r = refuse (number f) (detail f)
+
+-- The verdict is that of the checks in their order.
+pub record Judges (checks : List (Bool × ℕ)) (v : Verdict) : Type 0 where
+  pub says : _≡_ {A = Ruling ℕ} (first checks (accept 0)) (follow v (accept 0))
