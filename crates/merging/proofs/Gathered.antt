@@ -82,28 +82,71 @@ module _ (ns : List Node) (k : Climbing ns) where
   abbrev Above : ℕ → ℕ → Type 0
   Above s g = (s ≤ height g) × (height g < ceiling ns) × ((x : Node) × In x (gather ns ns) × (x .state ≡ g))
 
+  pub becomes-plain : (m : Node) → In m ns → m .production ≡ none → becomes ns (m .state) ≡ m .state
+  unfolding becomes
+  becomes-plain m i e = rw (production-at ns (k .rises) m i ∙ e, becomes)
+
+  pub becomes-accepting : (m : Node) (q : ℕ) → In m ns → m .production ≡ some q → becomes ns (m .state) ≡ lowest q ns
+  unfolding becomes
+  becomes-accepting m q i e = rw (production-at ns (k .rises) m i ∙ e, becomes)
+
   above : (m : Node) → In m ns → Above (m .state) (becomes ns (m .state))
-  unfolding top becomes
+  unfolding top
   above m i = go (m .production) refl
     where
-      at : node-production ns (m .state) ≡ m .production
-      at = production-at ns (k .rises) m i
       go : (o : Option ℕ) → m .production ≡ o → Above (m .state) (becomes ns (m .state))
       go none e =
-          let eq : becomes ns (m .state) ≡ m .state = rw (at ∙ e, becomes) in
-          let high : height (m .state) ≡ m .state = rw (at ∙ e) in
+          let high : height (m .state) ≡ m .state = rw (production-at ns (k .rises) m i ∙ e) in
           let stood = gather-in ns ns m i (inl e) in
-          subst (Above (m .state)) (sym eq) (omega (arith, high), omega (arith, high, under-ceiling ns m i), stood)
+          subst (Above (m .state)) (sym (becomes-plain m i e))
+            (omega (arith, high), omega (arith, high, under-ceiling ns m i), stood)
       go (some q) e =
           let f = first-node q ns (k .rises) m i e in
-          let eq : becomes ns (m .state) ≡ lowest q ns = rw (at ∙ e, becomes) in
           let found : node-production ns (lowest q ns) ≡ some q =
             ap (node-production ns) (sym (f .state)) ∙ production-at ns (k .rises) (f .node) (f .is-in) ∙ f .production in
           let high : height (lowest q ns) ≡ top-of q 0 ns = rw found in
           let (x, a, b) = gather-in ns ns (f .node) (f .is-in) (inr (q, f .production, sym (f .state))) in
           let t = top-bounds m i q e (last-of q 0 [] ns (k .rises)) in
-          subst (Above (m .state)) (sym eq)
+          subst (Above (m .state)) (sym (becomes-accepting m q i e))
             (omega (arith, high, t .0), omega (arith, high, t .1), (x, a, b ∙ f .state))
+
+  -- the node that a node becomes
+  pub record Became (m x : Node) : Type 0 where
+    pub is-in : In x (gather ns ns)
+    pub state : x .state ≡ becomes ns (m .state)
+    pub production : x .production ≡ m .production
+    pub rows : m .production ≡ none → x .rows ≡ redirect (becomes ns) (m .rows)
+
+  pub became : (m : Node) → In m ns → (x : Node) × Became m x
+  unfolding lead
+  became m i = let (_, _, (x, j, e)) = above m i in (x, go x j e (m .production) refl (in-gather ns ns x j))
+    where
+      go : (x : Node) → In x (gather ns ns) → x .state ≡ becomes ns (m .state) →
+          (o : Option ℕ) → m .production ≡ o → Source ns ns x → Became m x
+      go x j e none f (plain n l g h) =
+          let state : n .state ≡ m .state = ap (λ (y : Node). y .state) (sym h) ∙ e ∙ becomes-plain m i f in
+          let same : n ≡ m = one-state ns (k .rises) n m l i state in
+          record {
+            is-in = j;
+            state = e;
+            production = ap (λ (y : Node). y .production) h ∙ g ∙ sym f;
+            rows = λ _. ap (λ (y : Node). y .rows) h ∙ ap (λ (y : Node). redirect (becomes ns) (y .rows)) same;
+          }
+      go x j e none f (accepting n q l g a h) =
+          let state : n .state ≡ m .state = ap (λ (y : Node). y .state) (sym h) ∙ e ∙ becomes-plain m i f in
+          let same : n ≡ m = one-state ns (k .rises) n m l i state in
+          absurd (never (sym f ∙ ap (λ (y : Node). y .production) (sym same) ∙ g))
+      go x j e (some q) f s =
+          let (n, l, a, b) = source-of s in
+          let w = first-node q ns (k .rises) m i f in
+          let state : n .state ≡ w .node .state = sym a ∙ e ∙ becomes-accepting m q i f ∙ sym (w .state) in
+          let same : n ≡ w .node = one-state ns (k .rises) n (w .node) l (w .is-in) state in
+          record {
+            is-in = j;
+            state = e;
+            production = b ∙ ap (λ (y : Node). y .production) same ∙ w .production ∙ sym f;
+            rows = λ z. absurd (never (sym z ∙ f));
+          }
 
   -- where a gathered row leads: to what a state becomes that is higher than the row's class
   abbrev Leads : Node → ℕ × ℕ → Type 0

@@ -10,3 +10,6 @@ pub mod Gather
 pub mod Gathered
 pub mod States
 pub mod Ruled
+pub mod Marked
+pub mod Shrunk
+pub mod Exist

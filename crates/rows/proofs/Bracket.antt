@@ -10,10 +10,11 @@ use borrow.Author.Tests.{ltb-true}
 use lib.Dec.{ltb}
 use lib.ListN.{length}
 use lib.IntN.{ℤ}
-use Rattle.paper.specs.Checks.{rising}
+use Rattle.paper.specs.Checks.{row-fits, rising}
 use Rattle.rows.specs.Places.{row-at, rest, key}
 use Rattle.rows.specs.Search.{Passed, Lower}
-use Rattle.rows.proofs.Rest.{both, by-place}
+use Rattle.rows.proofs.Rest.{both, by-place, every-at}
+use Rattle.rows.proofs.Fits.{Fit, fit}
 use Rattle.rows.proofs.Keys.{compared, rising-key, rising-end}
 
 module _ {ns : List ℤ} (p : Passed ns) where
@@ -89,3 +90,7 @@ met b h = record {
   below = b .below;
   above = λ j l n. b .above j (omega arith) n;
 }
+
+-- a row of a slice that passed is within its bounds
+pub fit-at : {ns : List ℤ} (p : Passed ns) (i : ℕ) → i < length ns / 4 → Fit (row-at ns i)
+fit-at {ns} p i l = fit (row-at ns i) (every-at row-fits ns i (p .fits) (omega arith))

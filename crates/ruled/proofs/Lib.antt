@@ -1,1 +1,2 @@
--- (see the files named below)
+pub mod Arrays
+pub mod Firsts

@@ -1,1 +1,2 @@
 // Document 01, module 1: the checks 4 to 7 and the state count.
+pub mod into;

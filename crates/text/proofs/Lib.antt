@@ -2,3 +2,5 @@ pub mod Put
 pub mod Digits
 pub mod Written
 pub mod Lined
+pub mod Kept
+pub mod Out

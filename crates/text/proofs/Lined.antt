@@ -13,7 +13,7 @@ use Rattle.text.specs.Put.{put, Puts}
 use Rattle.text.specs.Written.{row, row-text, rows-text}
 use Rattle.text.proofs.Put.{put-put}
 
-uncode : (p : Option ℕ) → uncoded (code p) ≡ p
+pub uncode : (p : Option ℕ) → uncoded (code p) ≡ p
 uncode none = refl
 uncode (some q) = refl
 

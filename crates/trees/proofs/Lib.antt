@@ -11,3 +11,9 @@ pub mod Counted
 pub mod Checked
 pub mod Fits
 pub mod BuildSound
+pub mod Order
+pub mod Took
+pub mod Matching
+pub mod Taken
+pub mod Kept
+pub mod United

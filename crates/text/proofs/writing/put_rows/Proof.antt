@@ -1,7 +1,7 @@
 use mathlib.Core.Path.{_≡_, refl, ap, sym, _∙_}
 use Prim.Native.Nat.{ℕ, _+_, _-_, _*_, _/_, _≤_, _<_}
 use native.Mathlib.Omega.{arith}
-use mathlib.Core.List.{List}
+use mathlib.Core.List.{List, []}
 use lib.ListN.{length}
 use Rattle.paper.specs.Rows.{Row, rows-in}
 use Rattle.paper.specs.Checks.{row-fits}
@@ -56,7 +56,19 @@ code-at-requires c κs = omega arith
 
 -- src/writing.rt:122:9
 put-row-requires : tie.Need-put-row-requires Inv-loop μ-loop
-put-row-requires c κs = ?
+put-row-requires c κs =
+    let d = c .before in
+    let b = d .before .before .before .before .before in
+    let a = b .before .before in
+    let ns = a .args .table .now in
+    let i = b .loop .i in
+    let f : Fit (row-at ns i) = fit (row-at ns i) (every-at row-fits ns i (a .pre .1) (omega arith)) in (
+      omega arith,
+      omega (arith, d .before .before .before .from-at .ensures .is, f .from),
+      omega (arith, d .before .before .terminal-at .ensures .is, f .terminal),
+      omega (arith, d .before .to-at .ensures .is, f .to),
+      omega (arith, d .code-at .ensures .is, f .production),
+    )
 
 -- src/writing.rt:123:9
 add-i : tie.Need-add-i Inv-loop μ-loop
@@ -68,7 +80,31 @@ loop-less c = omega arith
 
 -- src/writing.rt:117:5
 loop-again : tie.Need-loop-again Inv-loop μ-loop
-loop-again c = ?
+loop-again c =
+    let w = c .before .before in
+    let d = w .before .before in
+    let b = d .before .before .before .before .before in
+    let a = b .before .before .args in
+    let ns = a .table .now in
+    let i = b .loop .i in
+    let h : i * 4 + 3 < length ns = omega arith in
+    let r : row (d .before .before .before .from-at .result) (d .before .before .terminal-at .result)
+              (d .before .to-at .result) (d .code-at .result) ≡ row-at ns i =
+        row-as (row-at ns i) _ _ _ _
+          (d .before .before .before .from-at .ensures .is)
+          (d .before .before .terminal-at .ensures .is)
+          (d .before .to-at .ensures .is)
+          (d .code-at .ensures .is) in
+    let p : Puts (b .loop .out) (b .loop .place) 35 (row-text (row-at ns i)) (w .put-row .last .0) (w .put-row .result) =
+        rw r at (w .put-row .ensures) in
+    let room : b .loop .place + 35 ≤ length (b .loop .out) = omega arith in (
+      omega arith,
+      refl,
+      omega arith,
+      omega (arith, p .within),
+      turn-place ns i h (b .loop .out) _ (b .loop .place) _ p room ∙ b .loop .inv .4,
+      turn-holds ns i h (b .loop .out) _ (b .loop .place) _ p room ∙ b .loop .inv .5,
+    )
 
 -- src/writing.rt:110:1
 same-length : tie.Need-same-length Inv-loop μ-loop
@@ -81,7 +117,7 @@ returns c =
     let p = c .before .loop in
     let e : rows-text (rest (a .table .now) (p .i)) ≡ [] = rows-none (a .table .now) (p .i) (omega arith) in
     record {
-      place = ?;
+      place = omega (arith, p .inv .4, ap length e);
       within = omega arith;
       holds = sym (put-nil (p .out) (p .place)) ∙ (rw e at (p .inv .5));
     }

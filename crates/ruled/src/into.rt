@@ -1,0 +1,20 @@
+// The first row into each state.
+use rows::numbers;
+
+ghost use mathlib.Core.Path.{_≡_};
+ghost use Prim.Native.Nat.{_<_, _≤_};
+ghost use lib.ListN.{length};
+ghost use Rattle.ruled.specs.Into.{Bounded, Clear, Marked};
+
+// Marks each state with the number, plus one, of the first row into it.
+pub fn mark(rows: &[i32], into: &mut [u16; 1024])
+    requires { ⌜ Bounded (now rows) × Clear (now into) ⌝ }
+    ensures { λ _. ⌜ Marked (now (rows .entry)) (now (into .exit)) ⌝ }
+{
+    let mut i = rows.len() / 4;
+    while 0 < i {
+        let to = numbers::to_at(rows, i - 1);
+        into[to] = i as u16;
+        i -= 1;
+    }
+}
