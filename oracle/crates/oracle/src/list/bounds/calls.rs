@@ -5,6 +5,7 @@ use super::spoilt::{self, Spoilt};
 use crate::Lent;
 use crate::make::Strings;
 use crate::reading::MODES;
+use crate::reading::Mode::{Archive, Intake};
 
 fn expect(number: u64, answered: u64) {
     assert_eq!(number, answered);
@@ -114,7 +115,7 @@ pub fn unites(list: &mut List) {
     let good = Lent::new(-1, 1, &row);
     for table in tables() {
         for mode in MODES {
-            if mode == MODES[0] && table.rows.len() >= ROOM {
+            if mode == Archive && table.rows.len() >= ROOM {
                 continue;
             }
             let clash = table.number == 0 && clashes(&table);
@@ -124,8 +125,8 @@ pub fn unites(list: &mut List) {
         }
     }
     let longest = spoilt::longest();
-    expect(7, list.unite(MODES[0], longest.lent(), good, ROOM));
-    expect(7, list.unite(MODES[1], good, longest.lent(), ROOM));
+    expect(7, list.unite(Archive, longest.lent(), good, ROOM));
+    expect(7, list.unite(Intake, good, longest.lent(), ROOM));
     rooms_of_unite(list, good);
     pairs_of_unite(list);
     full_unites(list);
@@ -192,15 +193,12 @@ fn full_unites(list: &mut List) {
         // The clash comes behind the row that overflows, and still wins.
         expect(8, list.unite(mode, full, behind, ROOM));
     }
-    expect(14, list.unite(MODES[0], new, full, ROOM));
-    expect(
-        8,
-        list.unite(MODES[1], full, Lent::new(-1, 1, &before), ROOM),
-    );
+    expect(14, list.unite(Archive, new, full, ROOM));
+    expect(8, list.unite(Intake, full, Lent::new(-1, 1, &before), ROOM));
     // In intake state 0 is compared first, and also wins over 14.
     let (one, two) = (Lent::new(1, 1, full.rows), Lent::new(2, 1, new.rows));
-    expect(14, list.unite(MODES[0], one, two, ROOM));
-    expect(8, list.unite(MODES[1], one, two, ROOM));
+    expect(14, list.unite(Archive, one, two, ROOM));
+    expect(8, list.unite(Intake, one, two, ROOM));
     roots_of_unite(list);
 }
 
@@ -213,7 +211,7 @@ fn roots_of_unite(list: &mut List) {
             let (f, s) = (Lent::new(a, 1, &first), Lent::new(b, 1, &second));
             expect(8, list.unite(mode, f, s, ROOM));
             let (f, s) = (Lent::new(a, 3, &first), Lent::new(b, 16, &first));
-            let apart = a >= 0 && b >= 0 && a != b && mode == MODES[1];
+            let apart = a >= 0 && b >= 0 && a != b && mode == Intake;
             expect(if apart { 8 } else { 0 }, list.unite(mode, f, s, ROOM));
         }
     }
@@ -222,7 +220,7 @@ fn roots_of_unite(list: &mut List) {
 pub fn shrinks(list: &mut List) {
     for table in tables() {
         for mode in MODES {
-            if mode == MODES[0] && table.rows.len() >= ROOM {
+            if mode == Archive && table.rows.len() >= ROOM {
                 continue;
             }
             expect(table.for_shrink(), list.shrink(mode, table.lent(), ROOM));
@@ -240,13 +238,13 @@ pub fn shrinks(list: &mut List) {
         let gap = [0, 5, 1_023, 1];
         expect(0, list.shrink(mode, Lent::new(-1, 1, &gap), ROOM));
     }
-    expect(0, list.shrink(MODES[0], spoilt::longest().lent(), ROOM));
+    expect(0, list.shrink(Archive, spoilt::longest().lent(), ROOM));
 }
 
 pub fn predicts(list: &mut List) {
     for table in tables() {
         for mode in MODES {
-            if mode == MODES[0] && table.rows.len() >= ROOM {
+            if mode == Archive && table.rows.len() >= ROOM {
                 continue;
             }
             let number = list.predict(mode, table.lent(), 16, &[5; 16]);
@@ -263,7 +261,7 @@ pub fn predicts(list: &mut List) {
     }
     expect(
         0,
-        list.predict(MODES[1], spoilt::longest().lent(), 1, &[4_095]),
+        list.predict(Intake, spoilt::longest().lent(), 1, &[4_095]),
     );
     let row = [0, 5, 1, -1];
     for mode in MODES {
