@@ -13,3 +13,7 @@ pub mod Ruled
 pub mod Marked
 pub mod Shrunk
 pub mod Exist
+pub mod Places
+pub mod Output
+pub mod Find
+pub mod Reached

@@ -2,9 +2,10 @@
 -- Assumes nothing.
 use mathlib.Core.Path.{_≡_, refl, sym, ap, _∙_}
 use mathlib.Core.Bool.{Bool, true, false, cond, not, _&&_}
-use mathlib.Core.List.{List, [], _∷_}
-use Prim.Native.Nat.{ℕ}
+use mathlib.Core.List.{List, [], _∷_, _++_}
+use Prim.Native.Nat.{ℕ, _≤_}
 use native.Mathlib.Omega.{arith}
+use borrow.Author.Tests.{leb-true}
 use lib.Dec.{leb}
 use lib.IntN.{ℤ}
 use mir.Syntax.{w32}
@@ -18,7 +19,9 @@ use Rattle.rows.specs.Search.{Passed}
 use Rattle.rows.specs.Verdicts.{follow, Judges}
 use Rattle.rows.specs.declared.verdict.Verdict.{Verdict}
 use Rattle.rows.specs.declared.verdict.Verdict.the-variants.{Pass, Refused}
+use Rattle.rows.specs.Places.{code}
 use Rattle.rows.proofs.Rest.{both}
+use Rattle.rows.proofs.Fits.{code-fits}
 
 module _ {A : Type 0} (x : Ruling A) where
   first-then : (cs : List (Bool × ℕ)) → first cs x ≡ then {A = ℕ} (first cs (accept 0)) (λ _. x)
@@ -90,3 +93,19 @@ plain-passed p k ns j =
     let a = passes-first j in
     let b = passes-first (a .1) in
     passed p k ns (a .0) (b .0)
+
+-- within RANGE, prod0 and k are
+pub record Bounded (t : Table) : Type 0 where
+  pub prod0 : code (t .prod0) ≤ 65536
+  pub k : t .k ≤ 16
+
+pub bounded : (t : Table) → range t ≡ false → Bounded t
+unfolding range
+bounded t e =
+    let a = production-fits (t .prod0) && leb (t .k) 16 in
+    let b = both a (every row-fits (t .rows)) (not-false-is (a && every row-fits (t .rows)) e) .0 in
+    let h = both (production-fits (t .prod0)) (leb (t .k) 16) b in
+    record { prod0 = leb-true _ _ (code-fits (t .prod0) ∙ h .0); k = leb-true _ _ (h .1) }
+
+pub plain-bounded : (t : Table) → Judges (plain t) Pass → Bounded t
+plain-bounded t j = bounded t (passes-first j .0)

@@ -83,6 +83,10 @@ pub none-back : (n : ℕ) → n ≡ 0 → negsuc 0 ≡ signed (uncoded n)
 none-back zero e = refl
 none-back (suc n) e = absurd (omega arith)
 
+-- a parameter that was passed on
+pub same : (x : ℤ) → SFits w32 x → toZ w32 (ofZ w32 x) ≡ x
+same x f = toZ-ofZ {w = w32} f
+
 -- an element that was read, as a callee is passed it
 pub back : (z : ℤ) → mag z < 2 ^ 31 → toZ w32 (ofZ w32 z) ≡ z
 back z h = toZ-ofZ {w = w32} (record { sfits = h })

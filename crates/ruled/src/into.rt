@@ -18,3 +18,10 @@ pub fn mark(rows: &[i32], into: &mut [u16; 1024])
         i -= 1;
     }
 }
+
+// A mark as a number.
+pub fn wide(x: u16) -> usize
+    ensures { λ r. ⌜ (r ≡ x) × (r ≤ 65535) ⌝ }
+{
+    x as usize
+}

@@ -4,3 +4,5 @@ pub mod Written
 pub mod Lined
 pub mod Kept
 pub mod Out
+pub mod Numbers
+pub mod Starts

@@ -17,3 +17,7 @@ pub mod Matching
 pub mod Taken
 pub mod Kept
 pub mod United
+pub mod UniteSound
+pub mod Predicts
+pub mod ListTests
+pub mod Defined

@@ -18,6 +18,7 @@ use Rattle.paper.specs.Build.{insert, give, within}
 use Rattle.paper.specs.Unite.{taken, root, united-k, matched, United, take-row, take-rows, united}
 use Rattle.trees.specs.Reach.{Seat, Finder, sit, seat-of, onward, Word, said}
 use Rattle.trees.specs.Views.{merge, join, seen}
+use Rattle.trees.specs.Unions.{as-seen, Agreed}
 use Rattle.trees.proofs.Find.{find-nil, find-left}
 use Rattle.trees.proofs.Paths.{path, word, onward-some, onward-none, path-left}
 use Rattle.trees.proofs.Grown.{grown-here}
@@ -164,13 +165,6 @@ module _ (mode : Mode) (A : Table) (tr : Tree (A .rows)) (pB : Option ℕ) (k : 
       agree (t ∷ v) p q e₁ e₂ = absurd (never (sym (ap said (path-nil pB v t)) ∙ e₂))
 
 -- ---- unite
--- The second table as unite sees it: in archive its state 0 does not count.
-abbrev pub as-seen : Mode → Table → Table → Table
-as-seen mode A B = record { prod0 = seen mode (A .prod0) (B .prod0); k = B .k; rows = B .rows }
-
-abbrev pub Agreed : (List ℕ → Word) → (List ℕ → Word) → Type 0
-Agreed D E = (v : List ℕ) (p q : ℕ) → D v ≡ some (some p) → E v ≡ some (some q) → p ≡ q
-
 -- T says what A and B say together, and they claim no string under different productions.
 pub record Joined (mode : Mode) (A B T : Table) : Type 0 where
   pub tree : Tree (T .rows)
@@ -178,14 +172,14 @@ pub record Joined (mode : Mode) (A B T : Table) : Type 0 where
   pub agree : Agreed (word A) (word (as-seen mode A B))
   pub longer : T .k ≡ united-k mode (A .k) (B .k)
 
-pub data Unites (mode : Mode) (A B : Table) : Ruling Made → Type 0 where
+pub data Ends (mode : Mode) (A B : Table) : Ruling Made → Type 0 where
   joined : {T : Table} → Joined mode A B T → suc (length (T .rows)) ≤ 1024 →
-      Unites mode A B (accept (record { table = T; states = suc (length (T .rows)) }))
-  full : {T : Table} → Joined mode A B T → 1024 < suc (length (T .rows)) → Unites mode A B (refuse 14 [])
+      Ends mode A B (accept (record { table = T; states = suc (length (T .rows)) }))
+  full : {T : Table} → Joined mode A B T → 1024 < suc (length (T .rows)) → Ends mode A B (refuse 14 [])
   at-odds : {p q : ℕ} (v : List ℕ) → word A v ≡ some (some p) → word (as-seen mode A B) v ≡ some (some q) →
-      (p ≡ q → ⊥) → Unites mode A B (refuse 8 (p ∷ q ∷ []))
+      (p ≡ q → ⊥) → Ends mode A B (refuse 8 (p ∷ q ∷ []))
 
-pub united-good : (mode : Mode) (A B : Table) → Tree (A .rows) → Tree (B .rows) → Unites mode A B (united mode A B)
+pub united-good : (mode : Mode) (A B : Table) → Tree (A .rows) → Tree (B .rows) → Ends mode A B (united mode A B)
 unfolding united within word path said begun
 united-good mode A B tr trB = go (root mode (A .prod0) (B .prod0)) (root-met mode (A .prod0) (B .prod0))
   where
@@ -193,19 +187,19 @@ united-good mode A B tr trB = go (root mode (A .prod0) (B .prod0)) (root-met mod
     pB = seen mode (A .prod0) (B .prod0)
     k : ℕ
     k = united-k mode (A .k) (B .k)
-    size : (T : Table) → Joined mode A B T → Unites mode A B (within T)
+    size : (T : Table) → Joined mode A B T → Ends mode A B (within T)
     size T j = sized (ltb 1024 (suc (length (T .rows)))) refl
       where
-        sized : (b : Bool) → ltb 1024 (suc (length (T .rows))) ≡ b → Unites mode A B
+        sized : (b : Bool) → ltb 1024 (suc (length (T .rows))) ≡ b → Ends mode A B
             (cond b (refuse 14 []) (accept (record { table = T; states = suc (length (T .rows)) })))
         sized true e = full j (ltb-true 1024 (suc (length (T .rows))) e)
         sized false e = joined j (ltb-false 1024 (suc (length (T .rows))) e)
     rest : {g : Ruling United} → Outcome mode (word A) pB (B .rows) g → Keeps (λ t. t .k ≡ k) g →
-        Unites mode A B (then g (λ u. within (u .table)))
+        Ends mode A B (then g (λ u. within (u .table)))
     rest (fine {u} i) (kept l) =
         size (u .table) (record { tree = i .tree; words = i .words; agree = i .agree; longer = l })
     rest (clashed v e₁ e₂ n) off = at-odds v e₁ e₂ n
-    go : (g : Ruling (Option ℕ)) → Met mode (A .prod0) pB g → Unites mode A B (then g (λ p.
+    go : (g : Ruling (Option ℕ)) → Met mode (A .prod0) pB g → Ends mode A B (then g (λ p.
         then (take-rows mode (record { table = record { prod0 = p; k = k; rows = A .rows }; matches = [] }) (B .rows))
           (λ u. within (u .table))))
     go g (met h) =

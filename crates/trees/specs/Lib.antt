@@ -2,3 +2,5 @@ pub mod Reach
 pub mod Views
 pub mod Trees
 pub mod Bounds
+pub mod Unions
+pub mod Says

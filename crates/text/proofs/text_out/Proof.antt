@@ -26,14 +26,14 @@ row-slice-requires c κs = search needs
 returns : tie.Need-returns
 returns c =
     let a = c .before .before .before .args in
-    refused Length (out-slice (a .prod0) (a .k) (a .table .now) _ (sym (c .before .row-slice .ensures) ∙ c .if1 .taken))
+    refused Length (out-slice (a .prod0) (a .k) (a .rows .now) _ (sym (c .before .row-slice .ensures) ∙ c .if1 .taken))
 
 -- src/lib.rt:19:9
 returns-2 : tie.Need-returns-2
 returns-2 c =
     let s = c .before .before in
     let a = s .before .before .args in
-    refused Length (out-room (a .prod0) (a .k) (a .table .now) _ (sym (s .row-slice .ensures) ∙ c .before .if1 .left) (c .if2 .taken))
+    refused Length (out-room (a .prod0) (a .k) (a .rows .now) _ (sym (s .row-slice .ensures) ∙ c .before .if1 .left) (c .if2 .taken))
 
 -- src/lib.rt:21:8
 range-requires : tie.Need-range-requires
@@ -47,8 +47,8 @@ returns-3 c =
     let g = s .before .before in
     let a = g .args in
     let whole = sym (s .row-slice .ensures) ∙ r .before .before .if1 .left in
-    let out = range-by (a .prod0) (a .k) (a .table .now) (g .fits .prod0) (r .range .ensures) (c .if3 .taken) in
-    refused Range (out-range (a .prod0) (a .k) (a .table .now) _ whole (r .before .if2 .left) out)
+    let out = range-by (a .prod0) (a .k) (a .rows .now) (g .fits .prod0) (r .range .ensures) (c .if3 .taken) in
+    refused Range (out-range (a .prod0) (a .k) (a .rows .now) _ whole (r .before .if2 .left) out)
 
 -- src/lib.rt:24:8
 order-requires : tie.Need-order-requires
@@ -56,8 +56,8 @@ order-requires c κs =
     let r = c .before in
     let g = r .before .before .before .before .before in
     let a = g .args in
-    let ranged = range-by (a .prod0) (a .k) (a .table .now) (g .fits .prod0) (r .range .ensures) (c .if3 .left) in
-    in-range (a .prod0) (a .k) (a .table .now) ranged .rows
+    let ranged = range-by (a .prod0) (a .k) (a .rows .now) (g .fits .prod0) (r .range .ensures) (c .if3 .left) in
+    in-range (a .prod0) (a .k) (a .rows .now) ranged .rows
 
 -- src/lib.rt:25:9
 returns-4 : tie.Need-returns-4
@@ -68,9 +68,9 @@ returns-4 c =
     let g = s .before .before in
     let a = g .args in
     let whole = sym (s .row-slice .ensures) ∙ r .before .before .if1 .left in
-    let ranged = range-by (a .prod0) (a .k) (a .table .now) (g .fits .prod0) (r .range .ensures) (o .before .if3 .left) in
+    let ranged = range-by (a .prod0) (a .k) (a .rows .now) (g .fits .prod0) (r .range .ensures) (o .before .if3 .left) in
     let fallen = sym (o .order .ensures) ∙ c .if4 .taken in
-    refused Order (out-order (a .prod0) (a .k) (a .table .now) _ whole (r .before .if2 .left) ranged fallen)
+    refused Order (out-order (a .prod0) (a .k) (a .rows .now) _ whole (r .before .if2 .left) ranged fallen)
 
 -- src/lib.rt:27:39
 coded-requires : tie.Need-coded-requires
@@ -83,8 +83,8 @@ put-head-requires c κs =
     let r = e .before in
     let g = r .before .before .before .before .before in
     let a = g .args in
-    let ranged = range-by (a .prod0) (a .k) (a .table .now) (g .fits .prod0) (r .range .ensures) (e .if3 .left) in
-    let h = in-range (a .prod0) (a .k) (a .table .now) ranged in
+    let ranged = range-by (a .prod0) (a .k) (a .rows .now) (g .fits .prod0) (r .range .ensures) (e .if3 .left) in
+    let h = in-range (a .prod0) (a .k) (a .rows .now) ranged in
     let q = code-by (a .prod0) (g .fits .prod0) (c .coded .ensures) in
     (omega arith, omega (arith, h .prod0), omega (arith, h .few))
 
@@ -97,9 +97,9 @@ put-rows-requires c κs =
     let s = r .before .before .before in
     let g = s .before .before in
     let a = g .args in
-    let ranged = range-by (a .prod0) (a .k) (a .table .now) (g .fits .prod0) (r .range .ensures) (e .if3 .left) in
-    let n = in-slice (a .table .now) (sym (s .row-slice .ensures) ∙ r .before .before .if1 .left) in
-    (omega (arith, w .put-head .ensures .within), in-range (a .prod0) (a .k) (a .table .now) ranged .rows)
+    let ranged = range-by (a .prod0) (a .k) (a .rows .now) (g .fits .prod0) (r .range .ensures) (e .if3 .left) in
+    let n = in-slice (a .rows .now) (sym (s .row-slice .ensures) ∙ r .before .before .if1 .left) in
+    (omega (arith, w .put-head .ensures .within), in-range (a .prod0) (a .k) (a .rows .now) ranged .rows)
 
 -- src/lib.rt:12:1
 same-length : tie.Need-same-length
@@ -117,14 +117,14 @@ returns-5 c =
     let a = g .args in
     let whole = sym (s .row-slice .ensures) ∙ r .before .before .if1 .left in
     let wide = r .before .if2 .left in
-    let ranged = range-by (a .prod0) (a .k) (a .table .now) (g .fits .prod0) (r .range .ensures) (o .before .if3 .left) in
+    let ranged = range-by (a .prod0) (a .k) (a .rows .now) (g .fits .prod0) (r .range .ensures) (o .before .if3 .left) in
     let risen = sym (o .order .ensures) ∙ p .before .before .before .if4 .left in
-    let h = in-range (a .prod0) (a .k) (a .table .now) ranged in
+    let h = in-range (a .prod0) (a .k) (a .rows .now) ranged in
     let q = code-by (a .prod0) (g .fits .prod0) (p .before .coded .ensures) in
     let all = puts-on (p .put-head .ensures) (omega arith) (w .put-rows .ensures) in
     written
-    (out-text (a .prod0) (a .k) (a .table .now) _ whole wide ranged risen)
-    (puts-as all (text-parts (a .prod0) (a .k) (a .table .now) _ h q))
+    (out-text (a .prod0) (a .k) (a .rows .now) _ whole wide ranged risen)
+    (puts-as all (text-parts (a .prod0) (a .k) (a .rows .now) _ h q))
 
 pub text-out-spec : {M : Type 1} → statement M
 text-out-spec =

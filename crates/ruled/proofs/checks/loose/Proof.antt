@@ -1,0 +1,77 @@
+use mathlib.Core.Path.{_≡_, refl, sym, _∙_}
+use Prim.Native.Nat.{_-_}
+use native.Mathlib.Omega.{arith}
+use borrow.Author.Needs.{needs}
+use Rattle.paper.specs.Rows.{rows-in}
+use Rattle.paper.specs.Checks.{any, loose}
+use Rattle.rows.specs.Places.{rest}
+use Rattle.rows.proofs.Rest.{any-next, any-here, any-end}
+use Rattle.ruled.specs.Into.{hangs}
+use Rattle.ruled.proofs.checks.loose.Statement.{statement}
+use Rattle.ruled.proofs.checks.loose.Tie as tie
+use Rattle.ruled.proofs.checks.loose.Reads as reads
+use Rattle.ruled.proofs.checks.loose.Lts as lts
+use Rattle.ruled.proofs.checks.hangs.Reads as hangs-reads
+
+abbrev Inv-loop : tie.InvT-loop
+Inv-loop rows into n i₀ i = any (hangs (rows-in rows)) (rows-in rows) ≡ any (hangs (rows-in rows)) (rest rows i)
+
+abbrev μ-loop : tie.MeasureT-loop
+μ-loop rows into n i₀ i = n - i
+
+-- src/checks.rt:32:5
+loop-holds : tie.Need-loop-holds Inv-loop μ-loop
+loop-holds c = refl
+
+-- src/checks.rt:33:12
+hangs-requires : tie.Need-hangs-requires Inv-loop μ-loop
+hangs-requires c κs =
+    let s = c .before .before in
+    (s .pre .0, s .pre .1, omega arith)
+
+-- src/checks.rt:34:13
+returns : tie.Need-returns Inv-loop μ-loop
+unfolding loose
+returns c =
+    let l = c .before .before .before in
+    let ns = l .before .args .rows .now in
+    let e = sym (c .before .hangs .ensures) ∙ c .if1 .taken in
+    sym (l .loop .inv ∙ any-here (hangs (rows-in ns)) ns (l .loop .i) (omega arith) e)
+
+-- src/checks.rt:36:9
+add-i : tie.Need-add-i Inv-loop μ-loop
+add-i c = search needs
+
+-- src/checks.rt:32:5
+loop-less : tie.Need-loop-less Inv-loop μ-loop
+loop-less c = search needs
+
+-- src/checks.rt:32:5
+loop-again : tie.Need-loop-again Inv-loop μ-loop
+loop-again c =
+    let l = c .before .before .before in
+    let ns = l .before .args .rows .now in
+    let e = sym (c .before .hangs .ensures) ∙ c .if1 .left in
+    l .loop .inv ∙ any-next (hangs (rows-in ns)) ns (l .loop .i) (omega arith) e
+
+-- src/checks.rt:26:1
+returns-2 : tie.Need-returns-2 Inv-loop μ-loop
+unfolding loose
+returns-2 c =
+    let l = c .before in
+    let ns = l .before .args .rows .now in
+    sym (l .loop .inv ∙ any-end (hangs (rows-in ns)) ns (l .loop .i) (omega arith))
+
+pub loose-spec : {M : Type 1} → statement M
+loose-spec =
+    tie.close
+    (tie.spec
+    Inv-loop
+    μ-loop
+    loop-holds
+    hangs-requires
+    returns
+    add-i
+    loop-less
+    loop-again
+    returns-2)

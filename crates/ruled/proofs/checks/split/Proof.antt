@@ -1,0 +1,76 @@
+use mathlib.Core.Path.{_≡_, refl, sym, _∙_}
+use Prim.Native.Nat.{_-_}
+use native.Mathlib.Omega.{arith}
+use borrow.Author.Needs.{needs}
+use Rattle.paper.specs.Rows.{rows-in}
+use Rattle.paper.specs.Checks.{any}
+use Rattle.rows.specs.Places.{rest}
+use Rattle.rows.proofs.Rest.{any-next, any-here, any-end}
+use Rattle.ruled.specs.Into.{differs}
+use Rattle.ruled.proofs.Splits.{split-first}
+use Rattle.ruled.proofs.checks.split.Statement.{statement}
+use Rattle.ruled.proofs.checks.split.Tie as tie
+use Rattle.ruled.proofs.checks.split.Reads as reads
+use Rattle.ruled.proofs.checks.split.Lts as lts
+use Rattle.ruled.proofs.checks.differs.Reads as differs-reads
+
+abbrev Inv-loop : tie.InvT-loop
+Inv-loop rows into n i₀ i = any (differs (rows-in rows)) (rows-in rows) ≡ any (differs (rows-in rows)) (rest rows i)
+
+abbrev μ-loop : tie.MeasureT-loop
+μ-loop rows into n i₀ i = n - i
+
+-- src/checks.rt:57:5
+loop-holds : tie.Need-loop-holds Inv-loop μ-loop
+loop-holds c = refl
+
+-- src/checks.rt:58:12
+differs-requires : tie.Need-differs-requires Inv-loop μ-loop
+differs-requires c κs =
+    let s = c .before .before in
+    (s .pre .0, s .pre .1, omega arith)
+
+-- src/checks.rt:59:13
+returns : tie.Need-returns Inv-loop μ-loop
+returns c =
+    let l = c .before .before .before in
+    let ns = l .before .args .rows .now in
+    let e = sym (c .before .differs .ensures) ∙ c .if1 .taken in
+    sym (split-first ns ∙ l .loop .inv ∙ any-here (differs (rows-in ns)) ns (l .loop .i) (omega arith) e)
+
+-- src/checks.rt:61:9
+add-i : tie.Need-add-i Inv-loop μ-loop
+add-i c = search needs
+
+-- src/checks.rt:57:5
+loop-less : tie.Need-loop-less Inv-loop μ-loop
+loop-less c = search needs
+
+-- src/checks.rt:57:5
+loop-again : tie.Need-loop-again Inv-loop μ-loop
+loop-again c =
+    let l = c .before .before .before in
+    let ns = l .before .args .rows .now in
+    let e = sym (c .before .differs .ensures) ∙ c .if1 .left in
+    l .loop .inv ∙ any-next (differs (rows-in ns)) ns (l .loop .i) (omega arith) e
+
+-- src/checks.rt:51:1
+returns-2 : tie.Need-returns-2 Inv-loop μ-loop
+returns-2 c =
+    let l = c .before in
+    let ns = l .before .args .rows .now in
+    sym (split-first ns ∙ l .loop .inv ∙ any-end (differs (rows-in ns)) ns (l .loop .i) (omega arith))
+
+pub split-spec : {M : Type 1} → statement M
+split-spec =
+    tie.close
+    (tie.spec
+    Inv-loop
+    μ-loop
+    loop-holds
+    differs-requires
+    returns
+    add-i
+    loop-less
+    loop-again
+    returns-2)
