@@ -1,0 +1,1 @@
+// Document 01, module 2: build.

@@ -1,0 +1,1 @@
+// Rows that grow: a row found or put where it belongs, in a lent array.

@@ -1,0 +1,1 @@
+// Document 01, module 3: unite.
