@@ -3,3 +3,5 @@ pub mod Tests
 pub mod Every
 pub mod Members
 pub mod RowsRise
+pub mod RowNumbers
+pub mod Cut

@@ -5,6 +5,7 @@ use mathlib.Core.Bool.{Bool, true, false, cond, false≢true}
 use mathlib.Core.List.{List, [], _∷_}
 use Prim.Native.Nat.{ℕ, suc, _≤_, _<_}
 use native.Mathlib.Omega.{arith}
+use lib.ListN.{length}
 use lib.Dec.{eqb}
 use borrow.Author.Tests.{eq-eqb}
 use Rattle.laws.proofs.Tests.{Test, same, apart, test}
@@ -140,3 +141,13 @@ module _ (mark : ℕ → ℕ) where
       go : (b : Bool) → Ascending (heads mark all ss) → Ascending (cond b (s ∷ heads mark all ss) (heads mark all ss))
       go true ih = asc-cons (λ x i. h x (in-heads all ss x i .0)) ih
       go false ih = ih
+
+  pub heads-length : (all ss : List ℕ) → length (heads mark all ss) ≤ length ss
+  unfolding heads
+  heads-length all [] = omega arith
+  heads-length all (s ∷ ss) = go (eqb (lowest-of mark all (mark s)) s) (heads-length all ss)
+    where
+      go : (b : Bool) → length (heads mark all ss) ≤ length ss →
+          length (cond b (s ∷ heads mark all ss) (heads mark all ss)) ≤ suc (length ss)
+      go true ih = omega arith
+      go false ih = omega arith

@@ -15,5 +15,8 @@ pub mod Shrunk
 pub mod Exist
 pub mod Places
 pub mod Output
+pub mod Fits
 pub mod Find
 pub mod Reached
+pub mod Unlike
+pub mod Promises

@@ -33,12 +33,28 @@ unfoldable pub place-among : List ℕ → ℕ → ℕ
 place-among [] s = 0
 place-among (h ∷ hs) s = cond (ltb h s) (suc (place-among hs s)) (place-among hs s)
 
+-- Of a table's state, its head: the lowest state of its mark.
+abbrev pub head-of : (ℕ → ℕ) → Table → ℕ → ℕ
+head-of mark t s = lowest-of mark (states (t .rows)) (mark s)
+
+-- And its source, whose rows the head takes: the highest state of its mark.
+abbrev pub source-of : (ℕ → ℕ) → Table → ℕ → ℕ
+source-of mark t s = highest-of mark 0 (states (t .rows)) (mark s)
+
+-- The heads of a table, one for each mark.
+abbrev pub heads-of : (ℕ → ℕ) → Table → List ℕ
+heads-of mark t = heads mark (states (t .rows)) (states (t .rows))
+
+-- The number that a state gets in the shrunk table.
+abbrev pub place-of : (ℕ → ℕ) → Table → ℕ → ℕ
+place-of mark t s = place-among (heads-of mark t) (head-of mark t s)
+
 -- A row (terminal, to) from the head s, as the shrunk table has it.
 unfoldable pub marked-row : (ℕ → ℕ) → Table → List ℕ → ℕ → ℕ × ℕ → Row
 marked-row mark t hs s r = record {
   from = place-among hs s;
   terminal = r .0;
-  to = place-among hs (lowest-of mark (states (t .rows)) (mark (r .1)));
+  to = place-among hs (head-of mark t (r .1));
   production = production-of (t .prod0) (t .rows) (r .1);
 }
 
@@ -46,13 +62,13 @@ marked-row mark t hs s r = record {
 unfoldable pub marked-rows : (ℕ → ℕ) → Table → List ℕ → List ℕ → List Row
 marked-rows mark t hs [] = []
 marked-rows mark t hs (s ∷ ss) =
-    map (marked-row mark t hs s) (rows-of (t .rows) (highest-of mark 0 (states (t .rows)) (mark s)))
+    map (marked-row mark t hs s) (rows-of (t .rows) (source-of mark t s))
     ++ marked-rows mark t hs ss
 
 -- The table that marks give, and its states: one for each mark.
 unfoldable pub marked : (ℕ → ℕ) → Table → Made
 marked mark t =
-    let hs = heads mark (states (t .rows)) (states (t .rows)) in
+    let hs = heads-of mark t in
     record {
       table = record { prod0 = t .prod0; k = t .k; rows = marked-rows mark t hs hs };
       states = length hs;

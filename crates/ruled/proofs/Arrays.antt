@@ -14,7 +14,7 @@ use Rattle.paper.specs.Checks.{row-fits}
 use Rattle.rows.specs.Places.{row-at}
 use Rattle.rows.proofs.Rest.{by-test, every-at}
 use Rattle.rows.proofs.Fits.{Fit, fit}
-use Rattle.ruled.specs.Into.{Bounded, Holds, Clear}
+use Rattle.ruled.specs.Into.{Fitting, Holds, Clear}
 
 pub clear : Clear (replicate 1024 0)
 clear = record { sized = length-replicate {A = ℕ} 1024 0; held = λ s h. getD-replicate {A = ℕ} 1024 s 0 0 h }
@@ -38,5 +38,5 @@ pub holds-as : {f g : ℕ → ℕ} {xs : List ℕ} → ((s : ℕ) → g s ≡ f 
 holds-as e h = record { sized = h .sized; held = λ s m. h .held s m ∙ sym (e s) }
 
 -- a row of rows within their bounds
-pub bound : {ns : List ℤ} → Bounded ns → (i : ℕ) → i * 4 + 3 < length ns → Fit (row-at ns i)
+pub bound : {ns : List ℤ} → Fitting ns → (i : ℕ) → i * 4 + 3 < length ns → Fit (row-at ns i)
 bound {ns} b i h = fit (row-at ns i) (every-at row-fits ns i (b .fits) h)

@@ -3,3 +3,7 @@ pub mod Firsts
 pub mod Somewhere
 pub mod Splits
 pub mod Hanging
+pub mod Once
+pub mod Seen
+pub mod Judging
+pub mod Passes

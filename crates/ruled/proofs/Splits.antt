@@ -15,7 +15,7 @@ use Rattle.paper.specs.Checks.{any, same-production, split}
 use Rattle.paper.specs.Shrink.{production-of}
 use Rattle.rows.specs.Places.{row-at, bare, code}
 use Rattle.rows.proofs.Rest.{both, by-test}
-use Rattle.ruled.specs.Into.{into-from, Bounded, Marked, leads, differs}
+use Rattle.ruled.specs.Into.{into-from, Fitting, Marked, leads, differs}
 use Rattle.ruled.proofs.Arrays.{bound}
 use Rattle.ruled.proofs.Firsts.{First, into-any, into-row}
 use Rattle.ruled.proofs.Somewhere.{same-test, Passing, any-place, place-any}
@@ -53,7 +53,7 @@ first-of ns i h (suc n) e =
     (omega arith, rw k (into-row ns (row-at ns i .to) n (sym e)))
 
 -- what the array says of it
-pub first-read : (ns : List ℤ) (into : List ℕ) (i t n : ℕ) → Bounded ns → Marked ns into → i * 4 + 3 < length ns
+pub first-read : (ns : List ℤ) (into : List ℕ) (i t n : ℕ) → Fitting ns → Marked ns into → i * 4 + 3 < length ns
     → t ≡ row-at ns i .to → n ≡ getD into t 0 → (1 ≤ n) × First ns (row-at ns i .to) (n - 1)
 first-read ns into i t n b m h e d =
     let l : t < 1024 = omega (arith, bound b i h .to) in

@@ -17,7 +17,7 @@ into-from i [] s = 0
 into-from i (r ∷ rs) s = cond (eqb (r .to) s) (suc i) (into-from (suc i) rs s)
 
 -- Rows within their bounds, and not too many.
-pub record Bounded (ns : List ℤ) : Type 0 where
+pub record Fitting (ns : List ℤ) : Type 0 where
   pub fits : every row-fits (rows-in ns) ≡ true
   pub few : length ns ≤ 16384
 

@@ -8,11 +8,11 @@ ghost use lib.ListN.{length};
 ghost use Rattle.paper.specs.Rows.{rows-in};
 ghost use Rattle.paper.specs.Checks.{loose, split};
 ghost use Rattle.rows.specs.Places.{row-at, bare};
-ghost use Rattle.ruled.specs.Into.{Bounded, Marked, hangs, differs};
+ghost use Rattle.ruled.specs.Into.{Fitting, Marked, hangs, differs};
 
 // Row i's from is not 0 and is no row's to.
 fn hangs(rows: &[i32], into: &[u16; 1024], i: usize) -> bool
-    requires { ⌜ Bounded (now rows) × Marked (now rows) (now into) × (i * 4 + 3 < length (now rows)) ⌝ }
+    requires { ⌜ Fitting (now rows) × Marked (now rows) (now into) × (i * 4 + 3 < length (now rows)) ⌝ }
     ensures { λ r. ⌜ r ≡ hangs (rows-in (now (rows .entry))) (row-at (now (rows .entry)) i) ⌝ }
 {
     let from = numbers::from_at(rows, i);
@@ -24,7 +24,7 @@ fn hangs(rows: &[i32], into: &[u16; 1024], i: usize) -> bool
 
 // 5 LOOSE.
 pub fn loose(rows: &[i32], into: &[u16; 1024]) -> bool
-    requires { ⌜ Bounded (now rows) × Marked (now rows) (now into) ⌝ }
+    requires { ⌜ Fitting (now rows) × Marked (now rows) (now into) ⌝ }
     ensures { λ r. ⌜ r ≡ loose (bare (now (rows .entry))) ⌝ }
 {
     let n = rows.len() / 4;
@@ -40,7 +40,7 @@ pub fn loose(rows: &[i32], into: &[u16; 1024]) -> bool
 
 // Row i's production is not that of the first row into its to.
 fn differs(rows: &[i32], into: &[u16; 1024], i: usize) -> bool
-    requires { ⌜ Bounded (now rows) × Marked (now rows) (now into) × (i * 4 + 3 < length (now rows)) ⌝ }
+    requires { ⌜ Fitting (now rows) × Marked (now rows) (now into) × (i * 4 + 3 < length (now rows)) ⌝ }
     ensures { λ r. ⌜ r ≡ differs (rows-in (now (rows .entry))) (row-at (now (rows .entry)) i) ⌝ }
 {
     let first = into::wide(into[numbers::to_at(rows, i)]);
@@ -49,7 +49,7 @@ fn differs(rows: &[i32], into: &[u16; 1024], i: usize) -> bool
 
 // 6 SPLIT.
 pub fn split(rows: &[i32], into: &[u16; 1024]) -> bool
-    requires { ⌜ Bounded (now rows) × Marked (now rows) (now into) ⌝ }
+    requires { ⌜ Fitting (now rows) × Marked (now rows) (now into) ⌝ }
     ensures { λ r. ⌜ r ≡ split (bare (now (rows .entry))) ⌝ }
 {
     let n = rows.len() / 4;

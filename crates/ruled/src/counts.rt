@@ -7,12 +7,12 @@ ghost use lib.ListN.{length, getD};
 ghost use Rattle.paper.specs.Rows.{rows-in, states};
 ghost use Rattle.paper.specs.Checks.{each-once, no-tree};
 ghost use Rattle.rows.specs.Places.{bare};
-ghost use Rattle.ruled.specs.Into.{Bounded, Clear};
+ghost use Rattle.ruled.specs.Into.{Fitting, Clear};
 ghost use Rattle.ruled.specs.Counts.{Counted, Entered};
 
 // Counts the rows into each state.
 fn count(rows: &[i32], counts: &mut [u16; 1024])
-    requires { ⌜ Bounded (now rows) × Clear (now counts) ⌝ }
+    requires { ⌜ Fitting (now rows) × Clear (now counts) ⌝ }
     ensures { λ _. ⌜ Counted (now (rows .entry)) (now (counts .exit)) ⌝ }
 {
     let mut i = rows.len() / 4;
@@ -40,7 +40,7 @@ fn each_once(rows: &[i32], counts: &[u16; 1024]) -> bool
 
 // 7 TREE.
 pub fn no_tree(rows: &[i32]) -> bool
-    requires { ⌜ Bounded (now rows) ⌝ }
+    requires { ⌜ Fitting (now rows) ⌝ }
     ensures { λ r. ⌜ r ≡ no-tree (bare (now (rows .entry))) ⌝ }
 {
     if 1023 < rows.len() / 4 {
@@ -61,4 +61,29 @@ fn enter(seen: &mut [u8; 1024], s: usize) -> usize
     }
     seen[s] = 1;
     1
+}
+
+// Counts the states, state 0 first.
+fn count_states(rows: &[i32], seen: &mut [u8; 1024]) -> usize
+    requires { ⌜ Fitting (now rows) × Clear (now seen) ⌝ }
+    ensures { λ r. ⌜ r ≡ length (states (rows-in (now (rows .entry)))) ⌝ }
+{
+    seen[0] = 1;
+    let mut n = 1;
+    let mut i = rows.len() / 4;
+    while 0 < i {
+        i -= 1;
+        let to = numbers::to_at(rows, i);
+        n += enter(seen, to);
+    }
+    n
+}
+
+// How many states the rows have: 0 and every to.
+pub fn state_count(rows: &[i32]) -> usize
+    requires { ⌜ Fitting (now rows) ⌝ }
+    ensures { λ r. ⌜ r ≡ length (states (rows-in (now (rows .entry)))) ⌝ }
+{
+    let mut seen = [0u8; 1024];
+    count_states(rows, &mut seen)
 }

@@ -4,11 +4,11 @@ use rows::numbers;
 ghost use mathlib.Core.Path.{_≡_};
 ghost use Prim.Native.Nat.{_<_, _≤_};
 ghost use lib.ListN.{length};
-ghost use Rattle.ruled.specs.Into.{Bounded, Clear, Marked};
+ghost use Rattle.ruled.specs.Into.{Fitting, Clear, Marked};
 
 // Marks each state with the number, plus one, of the first row into it.
 pub fn mark(rows: &[i32], into: &mut [u16; 1024])
-    requires { ⌜ Bounded (now rows) × Clear (now into) ⌝ }
+    requires { ⌜ Fitting (now rows) × Clear (now into) ⌝ }
     ensures { λ _. ⌜ Marked (now (rows .entry)) (now (into .exit)) ⌝ }
 {
     let mut i = rows.len() / 4;

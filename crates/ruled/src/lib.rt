@@ -2,3 +2,4 @@
 pub mod checks;
 pub mod counts;
 pub mod into;
+pub mod verdict;

@@ -6,3 +6,6 @@ pub mod Kept
 pub mod Out
 pub mod Numbers
 pub mod Starts
+pub mod Forms
+pub mod Rowed
+pub mod Ended

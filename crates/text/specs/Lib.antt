@@ -1,3 +1,4 @@
 pub mod Put
 pub mod Written
 pub mod Pieces
+pub mod Reading

@@ -3,6 +3,7 @@ use paper::{Refusal, Writing};
 use rows::{checks, numbers};
 
 mod pieces;
+mod reading;
 mod writing;
 
 ghost use lib.ListN.{length};

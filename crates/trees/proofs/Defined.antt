@@ -16,7 +16,7 @@ use Rattle.paper.specs.Checks.{first, range, order}
 use Rattle.paper.specs.Predict.{or-else, chosen, predict-table}
 use Rattle.paper.specs.Lists.{Opening, begins-some, stands-under, become, longest-within, longest, or-none, defined}
 use Rattle.trees.specs.Reach.{Word}
-use Rattle.trees.specs.Says.{told, Says}
+use Rattle.trees.specs.Says.{told, Says, foretold}
 use Rattle.trees.proofs.Paths.{word, view-word}
 use Rattle.trees.proofs.Predicts.{claim, advance, travel, best, told-of, chosen-is}
 use Rattle.trees.proofs.ListTests.{under-begins}
@@ -71,13 +71,6 @@ module _ (ls : List Opening) (D : List ℕ → Word) (says : (v : List ℕ) → 
             sym (within-front (reverse v) (t ∷ []) (length v) (omega (arith, length-reverse v)))
             ∙ ap (λ (z : List ℕ). longest-within ls z (length v)) (sym (reverse-cons t v)) in
       ap₂ or-else (claim-is (t ∷ v) ∙ ap (stands-under ls) (sym whole)) (best-is v ∙ front)
-
--- What the lists define, with the count of rows entered.
-abbrev pub foretold : List Opening → List ℕ → Ruling Chosen
-foretold ls tokens = then (defined ls tokens) (λ q. accept (record {
-  production = q;
-  entered = length (become ls [] (take (longest ls) tokens));
-}))
 
 told-is : (o : Option ℕ) (n : ℕ) →
     told-of o n ≡ then (or-none o) (λ q. accept (record { production = q; entered = n }))

@@ -21,3 +21,10 @@ pub mod UniteSound
 pub mod Predicts
 pub mod ListTests
 pub mod Defined
+pub mod Strings
+pub mod Tells
+pub mod Counting
+pub mod States
+pub mod Beginnings
+pub mod Calls
+pub mod Chained

@@ -112,3 +112,28 @@ path-left p f f′ h [] y e = e
 path-left p f f′ h (t ∷ v) y e =
     let (z, r, e₁, e₂, e₃) = onward-inv f (path p f v) t y e in
     onward-some f′ (path p f′ v) t z (path-left p f f′ h v z e₁) r (h (z .state) t r e₂) ∙ ap some (sym e₃)
+
+-- ---- the view, step by step
+all-onward-none : (f : Finder) (us : List ℕ) → all-onward f none us ≡ none
+unfolding all-onward onward
+all-onward-none f [] = refl
+all-onward-none f (u ∷ us) = all-onward-none f us
+
+-- whatever goes from state to state along the rows as the view does is the view
+pub view-by-steps : (rs : List Row) (R : ℕ → Option ℕ → List ℕ → Word) →
+    ((s : ℕ) (p : Option ℕ) → R s p [] ≡ some p) →
+    ((s : ℕ) (p : Option ℕ) (u : ℕ) (us : List ℕ) → find rs s u ≡ none → R s p (u ∷ us) ≡ none) →
+    ((s : ℕ) (p : Option ℕ) (u : ℕ) (us : List ℕ) (r : Row) → find rs s u ≡ some r →
+      R s p (u ∷ us) ≡ R (r .to) (r .production) us) →
+    (us : List ℕ) (s : ℕ) (p : Option ℕ) →
+    said (all-onward (find rs) (some (record { state = s; production = p })) us) ≡ R s p us
+unfolding all-onward onward said seat-of
+view-by-steps rs R ends stops goes [] s p = sym (ends s p)
+view-by-steps rs R ends stops goes (u ∷ us) s p = go (find rs s u) refl (view-by-steps rs R ends stops goes us)
+  where
+    go : (o : Option Row) → find rs s u ≡ o →
+        ((s : ℕ) (p : Option ℕ) →
+          said (all-onward (find rs) (some (record { state = s; production = p })) us) ≡ R s p us) →
+        said (all-onward (find rs) (seat-of o) us) ≡ R s p (u ∷ us)
+    go none e ih = ap said (all-onward-none (find rs) us) ∙ sym (stops s p u us e)
+    go (some r) e ih = ih (r .to) (r .production) ∙ sym (goes s p u us r e)

@@ -85,7 +85,7 @@ within-holds P t p = go (ltb 1024 (suc (length (t .rows)))) refl
     go true e = refused
     go false e = holds p (ltb-false 1024 (suc (length (t .rows))) e)
 
-united-fits : (mode : Mode) (A B : Table) → Fits A → Fits B → Holds Fits (united mode A B)
+pub united-fits : (mode : Mode) (A B : Table) → Fits A → Fits B → Holds Fits (united mode A B)
 unfolding united
 united-fits mode A B a b = go (root mode (A .prod0) (B .prod0)) (root-met mode (A .prod0) (B .prod0))
   where

@@ -4,3 +4,4 @@ pub mod Trees
 pub mod Bounds
 pub mod Unions
 pub mod Says
+pub mod Chain

@@ -3,9 +3,11 @@ use Prim.Native.Nat.{ℕ}
 use mathlib.Core.Path.{_≡_}
 use mathlib.Core.Bool.{cond}
 use mathlib.Core.Option.{Option, none, some}
-use mathlib.Core.List.{List, _++_, List·Memᴰ}
+use mathlib.Core.List.{List, [], _++_, List·Memᴰ}
+use lib.ListN.{length, take}
 use Rattle.paper.specs.Rows.{Table}
-use Rattle.paper.specs.Lists.{Opening, begins-some, stands-under}
+use Rattle.paper.specs.Answers.{Ruling, accept, then, Chosen}
+use Rattle.paper.specs.Lists.{Opening, begins-some, stands-under, become, longest, defined}
 use Rattle.trees.specs.Reach.{Word, view}
 
 -- Of what begins some string the production that it stands under, if it is one of the strings.
@@ -34,3 +36,10 @@ pub record Begun (ls : List Opening) (p : List ℕ) : Type 0 where
   pub string : List ℕ
   pub within : List·Memᴰ string (list .strings)
   pub begins : Begins p string
+
+-- What the lists define, with the count of rows entered.
+abbrev pub foretold : List Opening → List ℕ → Ruling Chosen
+foretold ls tokens = then (defined ls tokens) (λ q. accept (record {
+  production = q;
+  entered = length (become ls [] (take (longest ls) tokens));
+}))

@@ -1,0 +1,113 @@
+// Document 01, module 6: explain.
+use paper::{Explanation, Refusal, State};
+use rows::numbers;
+use rows::search::Found;
+use rows::verdict::Verdict;
+
+ghost use mathlib.Core.Path.{_≡_};
+ghost use mathlib.Core.Bool.{false};
+ghost use Prim.Native.Nat.{_+_, _-_, _*_, _/_, _<_, _≤_};
+ghost use lib.ListN.{length};
+ghost use Rattle.paper.specs.Rows.{rows-in};
+ghost use Rattle.paper.specs.Answers.{explained};
+ghost use Rattle.paper.specs.Explain.{Stretch, stop, at-end, left-rows, matched-count, stretch, PartOf};
+ghost use Rattle.rows.specs.Search.{Passed};
+ghost use Rattle.explain.specs.Stopped.{stopped};
+
+// Where the walk stopped: the state, the count of matched tokens, and whether a token was left over.
+pub struct Stop {
+    pub state: State,
+    pub matched: usize,
+    pub more: bool,
+}
+
+// The walk over all tokens to the first without a row, in rows that passed 1 to 3.
+pub fn walked(rows: &[i32], tokens: &[u16]) -> Stop
+    requires { ⌜ Passed (now rows) ⌝ }
+    ensures { λ r. ⌜ stopped r ≡ stop (rows-in (now (rows .entry))) 0 0 (now (tokens .entry)) ⌝ }
+{
+    let mut state = 0;
+    let mut i = 0;
+    while i < tokens.len() {
+        let found = rows::search::find(rows, state as usize, wide(tokens[i]));
+        let Found::At(row) = found else {
+            return Stop {
+                state: State(state),
+                matched: i,
+                more: true,
+            };
+        };
+        state = numbers::to_at(rows, row) as u16;
+        i += 1;
+    }
+    Stop {
+        state: State(state),
+        matched: i,
+        more: false,
+    }
+}
+
+fn wide(x: u16) -> usize
+    ensures { λ r. ⌜ (r ≡ x) × (r ≤ 65535) ⌝ }
+{
+    x as usize
+}
+
+// Explain, the first call: the count of matched tokens, or the refusal.
+pub fn matched(prod0: i32, k: usize, rows: &[i32], tokens: &[u16]) -> Explanation
+    ensures { λ r. ⌜ explained r ≡ matched-count prod0 k (now (rows .entry)) (now (tokens .entry)) ⌝ }
+{
+    if rows::checks::row_slice(rows) {
+        return Explanation::Refused(Refusal::Length);
+    }
+    let verdict = rows::verdict::plain(prod0, k, rows);
+    match verdict {
+        Verdict::Refused(f) => Explanation::Refused(f),
+        Verdict::Pass => {
+            let s = walked(rows, tokens);
+            Explanation::Matched(s.matched)
+        }
+    }
+}
+
+// The numbers of a slice from a to e.
+fn part(rows: &[i32], a: usize, e: usize) -> &[i32]
+    requires { ⌜ (a ≤ e) × (e ≤ length (now rows)) ⌝ }
+    ensures { λ r. ⌜ PartOf (rows .entry) r (record { start = a; count = e - a }) ⌝ }
+{
+    &rows[a..e]
+}
+
+// The rows that leave the state where a walk stopped, in rows that passed 1 to 3.
+fn left_rows(rows: &[i32], s: Stop) -> &[i32]
+    requires { ⌜ Passed (now rows) ⌝ }
+    ensures { λ r. ⌜ PartOf (rows .entry) r (left-rows (now (rows .entry)) (rows-in (now (rows .entry))) (stopped s)) ⌝ }
+{
+    let n = rows.len();
+    if !s.more {
+        return part(rows, n, n);
+    }
+    let state = s.state;
+    let span = rows::search::leaving(rows, state.0 as usize);
+    let count = span.count;
+    if count == 0 {
+        return part(rows, n, n);
+    }
+    let begin = span.begin;
+    part(rows, begin * 4, (begin + count) * 4)
+}
+
+// Explain, the second call: the rows that leave the stopped state, as a part of the caller's own slice.
+pub fn stretch<'a>(prod0: i32, k: usize, rows: &'a [i32], tokens: &[u16]) -> &'a [i32]
+    ensures { λ r. ⌜ PartOf (rows .entry) r (stretch prod0 k (now (rows .entry)) (now (tokens .entry))) ⌝ }
+{
+    let n = rows.len();
+    if rows::checks::row_slice(rows) {
+        return part(rows, n, n);
+    }
+    let verdict = rows::verdict::plain(prod0, k, rows);
+    let Verdict::Pass = verdict else {
+        return part(rows, n, n);
+    };
+    left_rows(rows, walked(rows, tokens))
+}

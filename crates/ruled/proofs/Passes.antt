@@ -1,0 +1,57 @@
+-- What a table is that passed 2 to 6, or 2 to 7.
+-- Assumes nothing.
+use mathlib.Core.Path.{_≡_, refl, sym, ap, _∙_}
+use mathlib.Core.Bool.{Bool, true, false}
+use mathlib.Core.List.{List, [], _∷_}
+use Prim.Native.Nat.{ℕ, _≤_}
+use lib.ListN.{length}
+use lib.IntN.{ℤ}
+use Rattle.paper.specs.Rows.{Table, table}
+use Rattle.paper.specs.Checks.{range, order, shape, loose, split, no-tree, plain, ruled, tree}
+use Rattle.rows.specs.Search.{Passed}
+use Rattle.rows.specs.Verdicts.{Judges}
+use Rattle.rows.specs.declared.verdict.Verdict.the-variants.{Pass}
+use Rattle.rows.proofs.Judged.{passes-first, passed}
+use Rattle.ruled.specs.Into.{Fitting}
+
+-- A table that 2 to 6 do not refuse.
+pub record Ruled (t : Table) : Type 0 where
+  pub range : range t ≡ false
+  pub order : order t ≡ false
+  pub shape : shape t ≡ false
+  pub loose : loose t ≡ false
+  pub split : split t ≡ false
+
+-- A table that 2 to 7 do not refuse.
+pub record Tree (t : Table) : Type 0 where
+  pub ruled : Ruled t
+  pub tree : no-tree t ≡ false
+
+pub ruled-passed : (t : Table) → Judges (ruled t) Pass → Ruled t
+ruled-passed t j =
+    let a = passes-first j in
+    let b = passes-first (a .1) in
+    let c = passes-first (b .1) in
+    let d = passes-first (c .1) in
+    let e = passes-first (d .1) in
+    record { range = a .0; order = b .0; shape = c .0; loose = d .0; split = e .0 }
+
+pub tree-passed : (t : Table) → Judges (tree t) Pass → Tree t
+tree-passed t j =
+    let a = passes-first j in
+    let b = passes-first (a .1) in
+    let c = passes-first (b .1) in
+    let d = passes-first (c .1) in
+    let e = passes-first (d .1) in
+    let f = passes-first (e .1) in
+    record {
+      ruled = record { range = a .0; order = b .0; shape = c .0; loose = d .0; split = e .0 };
+      tree = f .0;
+    }
+
+module _ (p : ℤ) (k : ℕ) (ns : List ℤ) where
+  pub plain-fits : Passed ns → length ns ≤ 16384 → Fitting ns
+  plain-fits h l = record { fits = h .fits; few = l }
+
+  pub ruled-rows : Ruled (table p k ns) → Passed ns
+  ruled-rows r = passed p k ns (r .range) (r .order)

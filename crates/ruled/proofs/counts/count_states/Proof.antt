@@ -1,0 +1,99 @@
+use mathlib.Core.Path.{_≡_, refl, sym, ap, _∙_}
+use Prim.Native.Nat.{ℕ, _+_, _-_, _/_, _≤_, _<_}
+use native.Mathlib.Omega.{arith}
+use lib.ListN.{length, getD}
+use Rattle.paper.specs.Rows.{states}
+use Rattle.rows.specs.Places.{rest}
+use Rattle.ruled.specs.Into.{Holds}
+use Rattle.ruled.specs.Counts.{seen-in}
+use Rattle.ruled.proofs.Arrays.{bound}
+use Rattle.ruled.proofs.Seen.{see-zero, one-state, seen-le, see-row, see-count}
+use Rattle.ruled.proofs.counts.count_states.Statement.{statement}
+use Rattle.ruled.proofs.counts.count_states.Tie as tie
+use Rattle.ruled.proofs.counts.count_states.Reads as reads
+use Rattle.ruled.proofs.counts.count_states.Lts as lts
+use Rattle.rows.proofs.numbers.to_at.Reads as to-at-reads
+use Rattle.ruled.proofs.counts.enter.Reads as enter-reads
+
+abbrev Inv-loop : tie.InvT-loop
+Inv-loop rows seen₀ n₀ i₀ seen n i =
+    (0 < n) × (n + i ≤ length rows / 4 + 1)
+    × Holds (seen-in (states (rest rows i))) seen × (n ≡ length (states (rest rows i)))
+
+abbrev μ-loop : tie.MeasureT-loop
+μ-loop rows seen₀ n₀ i₀ seen n i = i
+
+-- src/counts.rt:71:5
+element-write-seen : tie.Need-element-write-seen Inv-loop μ-loop
+element-write-seen c = omega arith
+
+-- src/counts.rt:74:5
+loop-holds : tie.Need-loop-holds Inv-loop μ-loop
+loop-holds c =
+    let ns = c .args .rows .now in
+    (omega arith, omega arith, see-zero ns (c .args .seen .now) (c .pre .1), one-state ns)
+
+-- src/counts.rt:75:9
+sub-i : tie.Need-sub-i Inv-loop μ-loop
+sub-i c = omega arith
+
+-- src/counts.rt:76:13
+to-at-requires : tie.Need-to-at-requires Inv-loop μ-loop
+to-at-requires c κs = omega arith
+
+-- src/counts.rt:77:14
+enter-requires : tie.Need-enter-requires Inv-loop μ-loop
+enter-requires c κs =
+    let t = c .before in
+    let l = t .before .before in
+    let f = bound (l .before .pre .0) (l .loop .i - 1) (omega arith) in
+    let b : t .to-at .result < 1024 = omega (arith, f .to, t .to-at .ensures) in
+    let xs = states (rest (l .before .args .rows .now) (l .loop .i)) in
+    (b, omega (arith, l .loop .inv .2 .held (t .to-at .result) b, seen-le xs (t .to-at .result)))
+
+-- src/counts.rt:77:9
+add-n : tie.Need-add-n Inv-loop μ-loop
+add-n c = omega (arith, c .enter .ensures .fresh)
+
+-- src/counts.rt:74:5
+loop-less : tie.Need-loop-less Inv-loop μ-loop
+loop-less c = omega arith
+
+-- src/counts.rt:74:5
+loop-again : tie.Need-loop-again Inv-loop μ-loop
+loop-again c =
+    let t = c .before .before in
+    let l = t .before .before in
+    let s = l .before in
+    let i = l .loop .i - 1 in
+    let f = bound (s .pre .0) i (omega arith) in
+    let b : t .to-at .result < 1024 = omega (arith, f .to, t .to-at .ensures) in
+    (omega arith, omega (arith, c .enter .ensures .fresh),
+      see-row (s .args .rows .now) i (omega arith) (l .loop .seen) (c .enter .last .0) (l .loop .i)
+      (t .to-at .result) (c .enter .result) (omega arith) (l .loop .inv .2) (t .to-at .ensures .is) b (c .enter .ensures),
+      see-count (s .args .rows .now) i (omega arith) (l .loop .seen) (c .enter .last .0) (l .loop .i)
+      (t .to-at .result) (c .enter .result) (omega arith) (l .loop .inv .2) (t .to-at .ensures .is) b (c .enter .ensures)
+      (l .loop .n) (l .loop .inv .3))
+
+-- src/counts.rt:67:1
+returns : tie.Need-returns Inv-loop μ-loop
+returns c =
+    let l = c .before in
+    let e : l .loop .i ≡ 0 = omega arith in
+    l .loop .inv .3 ∙ ap (λ (i : ℕ). length (states (rest (l .before .args .rows .now) i))) e
+
+pub count-states-spec : {M : Type 1} → statement M
+count-states-spec =
+    tie.close
+    (tie.spec
+    Inv-loop
+    μ-loop
+    element-write-seen
+    loop-holds
+    sub-i
+    to-at-requires
+    enter-requires
+    add-n
+    loop-less
+    loop-again
+    returns)

@@ -1,0 +1,18 @@
+use Rattle.ruled.proofs.Arrays.{clear}
+use borrow.Author.Needs.{needs}
+use Rattle.ruled.proofs.counts.state_count.Statement.{statement}
+use Rattle.ruled.proofs.counts.state_count.Tie as tie
+use Rattle.ruled.proofs.counts.state_count.Reads as reads
+use Rattle.ruled.proofs.counts.state_count.Lts as lts
+use Rattle.ruled.proofs.counts.count_states.Reads as count-states-reads
+
+-- src/counts.rt:88:5
+count-states-requires : tie.Need-count-states-requires
+count-states-requires c κs = (c .before .pre, clear)
+
+-- src/counts.rt:83:1
+returns : tie.Need-returns
+returns c = search needs
+
+pub state-count-spec : {M : Type 1} → statement M
+state-count-spec = tie.close (tie.spec count-states-requires returns)

@@ -1,0 +1,76 @@
+use mathlib.Core.Path.{_≡_, refl, sym, _∙_}
+use Rattle.paper.specs.declared.Refusal.the-variants.{Shape, Loose, Split}
+use Rattle.rows.proofs.Judged.{done, refuses, next-check}
+use Rattle.ruled.proofs.Arrays.{clear}
+use borrow.Author.Needs.{needs}
+use Rattle.ruled.proofs.verdict.beyond.Statement.{statement}
+use Rattle.ruled.proofs.verdict.beyond.Tie as tie
+use Rattle.ruled.proofs.verdict.beyond.Reads as reads
+use Rattle.ruled.proofs.verdict.beyond.Lts as lts
+use Rattle.rows.proofs.checks.shape.Reads as shape-reads
+use Rattle.ruled.proofs.checks.loose.Reads as loose-reads
+use Rattle.ruled.proofs.checks.split.Reads as split-reads
+use Rattle.ruled.proofs.into.mark.Reads as mark-reads
+
+-- src/verdict.rt:24:8
+shape-requires : tie.Need-shape-requires
+shape-requires c κs = search needs
+
+-- src/verdict.rt:25:9
+returns : tie.Need-returns
+returns c = refuses Shape refl refl (sym (c .before .shape .ensures) ∙ c .if1 .taken)
+
+-- src/verdict.rt:28:5
+mark-requires : tie.Need-mark-requires
+mark-requires c κs = (c .before .before .before .pre, clear)
+
+-- src/verdict.rt:29:8
+loose-requires : tie.Need-loose-requires
+loose-requires c κs = search needs
+
+-- src/verdict.rt:30:9
+returns-2 : tie.Need-returns-2
+returns-2 c =
+    let l = c .before in
+    let s = l .before .before .before .before in
+    next-check (sym (s .before .shape .ensures) ∙ s .if1 .left)
+    (refuses Loose refl refl (sym (l .loose .ensures) ∙ c .if2 .taken))
+
+-- src/verdict.rt:32:8
+split-requires : tie.Need-split-requires
+split-requires c κs = search needs
+
+-- src/verdict.rt:33:9
+returns-3 : tie.Need-returns-3
+returns-3 c =
+    let p = c .before in
+    let d = p .before .before in
+    let l = d .before in
+    let s = l .before .before .before .before in
+    next-check (sym (s .before .shape .ensures) ∙ s .if1 .left)
+    (next-check (sym (l .loose .ensures) ∙ d .if2 .left)
+    (refuses Split refl refl (sym (p .split .ensures) ∙ c .if3 .taken)))
+
+-- src/verdict.rt:20:1
+returns-4 : tie.Need-returns-4
+returns-4 c =
+    let p = c .before in
+    let d = p .before .before in
+    let l = d .before in
+    let s = l .before .before .before .before in
+    next-check (sym (s .before .shape .ensures) ∙ s .if1 .left)
+    (next-check (sym (l .loose .ensures) ∙ d .if2 .left)
+    (next-check (sym (p .split .ensures) ∙ c .if3 .left) done))
+
+pub beyond-spec : {M : Type 1} → statement M
+beyond-spec =
+    tie.close
+    (tie.spec
+    shape-requires
+    returns
+    mark-requires
+    loose-requires
+    returns-2
+    split-requires
+    returns-3
+    returns-4)

@@ -1,0 +1,56 @@
+use Rattle.paper.specs.Rows.{table}
+use Rattle.paper.specs.Checks.{plain}
+use Rattle.rows.proofs.Judged.{plain-passed}
+use Rattle.ruled.specs.Beyond.{beyond}
+use Rattle.ruled.proofs.Judging.{judges-stop, judges-on, passed-on, beyond-rows}
+use Rattle.ruled.proofs.Passes.{plain-fits}
+use borrow.Author.Needs.{needs}
+use Rattle.ruled.proofs.verdict.ruled.Statement.{statement}
+use Rattle.ruled.proofs.verdict.ruled.Tie as tie
+use Rattle.ruled.proofs.verdict.ruled.Reads as reads
+use Rattle.ruled.proofs.verdict.ruled.Lts as lts
+use Rattle.rows.proofs.verdict.plain.Reads as plain-reads
+use Rattle.ruled.proofs.verdict.beyond.Reads as beyond-reads
+
+-- src/verdict.rt:43:9
+plain-requires : tie.Need-plain-requires
+plain-requires c κs = search needs
+
+enum-told : tie.Need-enum-told
+enum-told c = search needs
+
+-- src/verdict.rt:45:9
+enum-told-2 : tie.Need-enum-told-2
+enum-told-2 c = search needs
+
+-- src/verdict.rt:45:9
+returns : tie.Need-returns
+returns c =
+    let v = c .before .before in
+    let s = v .before in
+    let a = s .args in
+    let j = passed-on plain (a .prod0) (a .k) (a .rows .now) (v .plain .result) (s .fits .prod0) (v .plain .ensures) in
+    judges-stop (beyond (table (a .prod0) (a .k) (a .rows .now))) j (c .enum-told2 .given .0 .0) (c .enum-told2 .given .1)
+
+-- src/verdict.rt:47:5
+beyond-requires : tie.Need-beyond-requires
+beyond-requires c κs =
+    let v = c .before .before in
+    let s = v .before in
+    let a = s .args in
+    ?
+
+-- src/verdict.rt:39:1
+returns-2 : tie.Need-returns-2
+returns-2 c =
+    let e = c .before in
+    let v = e .before .before in
+    let s = v .before in
+    let a = s .args in
+    let j = passed-on plain (a .prod0) (a .k) (a .rows .now) (v .plain .result) (s .fits .prod0) (v .plain .ensures) in
+    judges-on (beyond (table (a .prod0) (a .k) (a .rows .now))) j (e .enum-told .given .1)
+    (beyond-rows (a .prod0) (a .k) (a .rows .now) (c .beyond .result) (c .beyond .ensures))
+
+pub ruled-spec : {M : Type 1} → statement M
+ruled-spec =
+    tie.close (tie.spec plain-requires enum-told enum-told-2 returns beyond-requires returns-2)

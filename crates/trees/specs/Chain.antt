@@ -1,0 +1,54 @@
+-- Demand 3 up to shrink: build each list and unite them one after the other, in intake mode, into output slices of
+-- 16,384 numbers; and what that comes to.
+use Prim.Native.Nat.{ℕ, suc}
+use mathlib.Core.Path.{_≡_}
+use mathlib.Core.List.{List, [], _∷_, map, List·Memᴰ}
+use lib.ListN.{length}
+use lib.IntN.{pos}
+use Rattle.paper.specs.declared.Mode.the-variants.{Intake}
+use Rattle.paper.specs.Rows.{signed, numbers}
+use Rattle.paper.specs.Answers.{Ruling, accept, refuse, then, Made}
+use Rattle.paper.specs.Build.{build}
+use Rattle.paper.specs.Unite.{unite}
+use Rattle.paper.specs.Lists.{Opening, longest}
+use Rattle.paper.specs.Cases.{joined}
+use Rattle.trees.specs.Trees.{Sound}
+use Rattle.trees.specs.Says.{Says, Stands}
+
+-- A list is built.
+unfoldable pub build-list : Opening → Ruling Made
+build-list l = build (pos (l .production)) (joined (l .strings)) (map (λ σ. length σ) (l .strings)) 16384
+
+-- Two made tables are united.
+unfoldable pub unite-made : Made → Made → Ruling Made
+unite-made a b = unite Intake
+    (signed (a .table .prod0)) (a .table .k) (numbers (a .table .rows))
+    (signed (b .table .prod0)) (b .table .k) (numbers (b .table .rows)) 16384
+
+-- The other lists are built and united one after the other to what there is.
+unfoldable pub unite-rest : Made → List Opening → Ruling Made
+unite-rest a [] = accept a
+unite-rest a (l ∷ ls) = then (build-list l) (λ b. then (unite-made a b) (λ c. unite-rest c ls))
+
+unfoldable pub chain : Opening → List Opening → Ruling Made
+chain l ls = then (build-list l) (λ a. unite-rest a ls)
+
+-- One string stands under two different production numbers.
+pub record Conflict (ls : List Opening) (p q : ℕ) : Type 0 where
+  pub string : List ℕ
+  pub first : Stands ls string p
+  pub second : Stands ls string q
+  pub differ : p ≡ q → ⊥
+
+-- No string does, and the table is a tree that says what the lists say.
+pub record United-lists (ls : List Opening) (m : Made) : Type 0 where
+  pub one-number : (σ : List ℕ) (p q : ℕ) → Stands ls σ p → Stands ls σ q → p ≡ q
+  pub sound : Sound (m .table)
+  pub states : m .states ≡ suc (length (m .table .rows))
+  pub says : Says (m .table) ls
+  pub longest : m .table .k ≡ longest ls
+
+-- No step is refused but for a clash, and some step is exactly when there is a conflict.
+pub data Chained (ls : List Opening) : Ruling Made → Type 0 where
+  united : {m : Made} → United-lists ls m → Chained ls (accept m)
+  clashed : {p q : ℕ} → Conflict ls p q → Chained ls (refuse 8 (p ∷ q ∷ []))
