@@ -1,1 +1,5 @@
--- (see the files named below)
+pub mod Shifted
+pub mod Written
+pub mod Placed
+pub mod Painted
+pub mod Fronts

@@ -1,10 +1,10 @@
 -- Rows rise exactly when each stands before all that follow it; so do two lists, one after the other.
 -- Assumes nothing.
-use mathlib.Core.Path.{_≡_, refl, sym, _∙_, ap, subst}
+use mathlib.Core.Path.{_≡_, refl, sym, _∙_, subst}
 use mathlib.Core.Logic.{⊎-elim, _⊎_, inl, inr}
-use mathlib.Core.Bool.{Bool, true, false, _&&_, _||_, false≢true}
+use mathlib.Core.Bool.{true, _&&_}
 use mathlib.Core.List.{List, [], _∷_, _++_, List·Memᴰ·append-cases}
-use Prim.Native.Nat.{ℕ, _<_}
+use Prim.Native.Nat.{_<_}
 use native.Mathlib.Omega.{arith}
 use lib.Dec.{eqb, ltb}
 use borrow.Author.Tests.{ltb-true, eqb-true, lt-ltb, eq-eqb}
@@ -38,7 +38,8 @@ true-before a b e = ⊎-elim
     (λ p. inl (ltb-true (a .from) (b .from) p))
     (λ p. inr (
       eqb-true (a .from) (b .from) (first-of (eqb (a .from) (b .from)) (ltb (a .terminal) (b .terminal)) p),
-      ltb-true (a .terminal) (b .terminal) (second-of (eqb (a .from) (b .from)) (ltb (a .terminal) (b .terminal)) p)))
+      ltb-true (a .terminal) (b .terminal) (second-of (eqb (a .from) (b .from)) (ltb (a .terminal) (b .terminal)) p),
+    ))
     (or-cases (ltb (a .from) (b .from)) (eqb (a .from) (b .from) && ltb (a .terminal) (b .terminal)) e)
 
 pub rise-rising : (rs : List Row) → RowsRise rs → rising rs ≡ true
@@ -54,14 +55,14 @@ rising-rise [] e = rows-nil
 rising-rise (a ∷ []) e = rows-cons (λ x i. absurd (nowhere i)) rows-nil
 rising-rise (a ∷ b ∷ rs) e =
     go (true-before a b (first-of (before a b) (rising (b ∷ rs)) e))
-      (rising-rise (b ∷ rs) (second-of (before a b) (rising (b ∷ rs)) e))
+    (rising-rise (b ∷ rs) (second-of (before a b) (rising (b ∷ rs)) e))
   where
     go : Before a b → RowsRise (b ∷ rs) → RowsRise (a ∷ b ∷ rs)
     go p (rows-cons h k) = rows-cons
         (λ x i. ⊎-elim
-          (λ z. subst (λ (y : Row). Before a y) (sym z) p)
-          (λ j. before-trans a b x p (h x j))
-          (where-in i))
+        (λ z. subst (λ (y : Row). Before a y) (sym z) p)
+        (λ j. before-trans a b x p (h x j))
+        (where-in i))
         (rows-cons h k)
 
 pub rise-append : (xs ys : List Row) → RowsRise xs → RowsRise ys →

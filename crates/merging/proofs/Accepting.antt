@@ -2,16 +2,15 @@
 use mathlib.Core.Path.{_≡_, refl, sym, _∙_, ap}
 use mathlib.Core.Logic.{⊎-elim, _⊎_, inl, inr}
 use mathlib.Core.Bool.{Bool, true, false, cond, false≢true}
-use mathlib.Core.Option.{Option, none, some}
+use mathlib.Core.Option.{none, some}
 use mathlib.Core.List.{List, [], _∷_}
-use Prim.Native.Nat.{ℕ, suc, _≤_, _<_}
+use Prim.Native.Nat.{ℕ, _≤_}
 use native.Mathlib.Omega.{arith}
 use lib.Dec.{eqb}
 use borrow.Author.Tests.{eq-eqb, ne-eqb}
 use Rattle.laws.proofs.Members.{In, here, there, nowhere, where-in}
-use Rattle.paper.specs.Checks.{same-production}
 use Rattle.paper.specs.Shrink.{Node, accepts, lowest, highest-rows, node-production}
-use Rattle.merging.specs.Classes.{Rising, rise-nil, rise-cons}
+use Rattle.merging.specs.Classes.{Rising, rise-cons}
 use Rattle.merging.proofs.Equal.{same-production-eq, same-production-refl}
 
 pub accepts-yes : (q : ℕ) (n : Node) → n .production ≡ some q → accepts q n ≡ true
@@ -42,7 +41,10 @@ first-node q (x ∷ ns) (rise-cons l r) n i e =
       is-in = here;
       state = rw k;
       production = accepts-is q x k;
-      low = λ m i _. ⊎-elim (λ z. omega (arith, ap (λ (y : Node). y .state) z)) (λ z. omega (arith, l m z)) (where-in i);
+      low = λ m i _. ⊎-elim
+          (λ z. omega (arith, ap (λ (y : Node). y .state) z))
+          (λ z. omega (arith, l m z))
+          (where-in i);
     }
     go false k (inl j) ih =
         let z : x .production ≡ some q = ap (λ (y : Node). y .production) (sym j) ∙ e in
@@ -53,9 +55,9 @@ first-node q (x ∷ ns) (rise-cons l r) n i e =
       state = rw k (f .state);
       production = f .production;
       low = λ m i p. ⊎-elim
-        (λ z. absurd (false≢true (sym k ∙ accepts-yes q x (ap (λ (y : Node). y .production) (sym z) ∙ p))))
-        (λ z. f .low m z p)
-        (where-in i);
+          (λ z. absurd (false≢true (sym k ∙ accepts-yes q x (ap (λ (y : Node). y .production) (sym z) ∙ p))))
+          (λ z. f .low m z p)
+          (where-in i);
     }
 
 -- the state of the last node that accepts q, d where there is none
@@ -78,8 +80,10 @@ last-of q d os (n ∷ ns) (rise-cons h r) = go (accepts q n) refl (λ d os. last
   where
     tops : (b : Bool) → accepts q n ≡ b → top-of q d (n ∷ ns) ≡ top-of q (cond b (n .state) d) ns
     tops b k = ap (λ (t : Bool). top-of q (cond t (n .state) d) ns) k
+
     rows : (b : Bool) → accepts q n ≡ b → highest-rows q os (n ∷ ns) ≡ highest-rows q (cond b (n .rows) os) ns
     rows b k = ap (λ (t : Bool). highest-rows q (cond t (n .rows) os) ns) k
+
     more : (b : Bool) → accepts q n ≡ b → Last q (cond b (n .state) d) (cond b (n .rows) os) ns → Last q d os (n ∷ ns)
     more b k (last-node x i p e f g) = last-node x (there i) p (tops b k ∙ e) (rows b k ∙ f) (λ m j s. ⊎-elim
         (λ z. omega (arith, h x i, ap (λ (y : Node). y .state) z))
@@ -87,13 +91,14 @@ last-of q d os (n ∷ ns) (rise-cons h r) = go (accepts q n) refl (λ d os. last
         (where-in j))
     more true k (no-node e f g) =
         last-node n here (accepts-is q n k) (tops true k ∙ e) (rows true k ∙ f) (λ m j s. ⊎-elim
-          (λ z. omega (arith, ap (λ (y : Node). y .state) z))
-          (λ z. absurd (g m z s))
-          (where-in j))
+        (λ z. omega (arith, ap (λ (y : Node). y .state) z))
+        (λ z. absurd (g m z s))
+        (where-in j))
     more false k (no-node e f g) = no-node (tops false k ∙ e) (rows false k ∙ f) (λ m j s. ⊎-elim
         (λ z. false≢true (sym k ∙ accepts-yes q n (ap (λ (y : Node). y .production) (sym z) ∙ s)))
         (λ z. g m z s)
         (where-in j))
+
     go : (b : Bool) → accepts q n ≡ b → ((d : ℕ) (os : List (ℕ × ℕ)) → Last q d os ns) → Last q d os (n ∷ ns)
     go b k ih = more b k (ih (cond b (n .state) d) (cond b (n .rows) os))
 

@@ -8,7 +8,7 @@ use lib.ListN.{length}
 use Rattle.laws.proofs.Members.{In, in-map, map-in}
 use Rattle.paper.specs.Shrink.{Node, redirect, lead, merge-all}
 use Rattle.merging.specs.Numbers.{Ascending, asc-nil, asc-cons}
-use Rattle.merging.specs.Classes.{Rising, rise-nil, rise-cons, quotient, Class, Reduced, Grounded}
+use Rattle.merging.specs.Classes.{Rising, rise-cons, quotient, Class, Reduced, Grounded}
 use Rattle.merging.specs.Marks.{lowest-of}
 use Rattle.merging.proofs.Equal.{equal-eq}
 use Rattle.merging.proofs.Redirect.{redirect-over}
@@ -64,9 +64,9 @@ module _ (ns : List Node) (rank : ℕ → ℕ) (g : Grounded ns rank) (mark : �
       let (m, in-m, e₂, root-m) = in-quotient c ns y j in
       let h = equal-eq x y e in
       let production : n .production ≡ m .production =
-        ap (λ (z : Node). z .production) (sym e₁) ∙ h .0 ∙ ap (λ (z : Node). z .production) e₂ in
+      ap (λ (z : Node). z .production) (sym e₁) ∙ h .0 ∙ ap (λ (z : Node). z .production) e₂ in
       let rows : redirect c (n .rows) ≡ redirect c (m .rows) =
-        ap (λ (z : Node). z .rows) (sym e₁) ∙ h .1 ∙ ap (λ (z : Node). z .rows) e₂ in
+      ap (λ (z : Node). z .rows) (sym e₁) ∙ h .1 ∙ ap (λ (z : Node). z .rows) e₂ in
       let marks = k .two n m in-n in-m production (rows-by c mark n m in-n in-m down rows) in
       let state : n .state ≡ m .state = sym root-n ∙ up n m in-n in-m marks ∙ root-m in
       e₁ ∙ ap (lead c) (one-state ns (g .rises) n m in-n in-m state) ∙ sym e₂
@@ -88,10 +88,10 @@ pub by-marks : (ns : List Node) (rank mark : ℕ → ℕ) → Grounded ns rank �
 by-marks ns rank mark g k turns enough =
     let a = states-ascend ns (g .rises) in
     let sub : (n : Node) → In n ns → In (n .state) (map (λ (n : Node). n .state) ns) =
-      λ n i. in-map (λ (z : Node). z .state) ns n i in
+    λ n i. in-map (λ (z : Node). z .state) ns n i in
     by-marks-among ns rank g mark k (map (λ (n : Node). n .state) ns) a sub
-      (λ n i.
-        let l = lowest mark (map (λ (n : Node). n .state) ns) a (n .state) (mark (n .state)) (sub n i) refl in
-        let (m, j, e) = map-in (λ (z : Node). z .state) ns _ (l .is-in) in
-        (m, j, sym e))
-      turns enough
+    (λ n i.
+    let l = lowest mark (map (λ (n : Node). n .state) ns) a (n .state) (mark (n .state)) (sub n i) refl in
+    let (m, j, e) = map-in (λ (z : Node). z .state) ns _ (l .is-in) in
+    (m, j, sym e))
+    turns enough

@@ -3,11 +3,10 @@ use mathlib.Core.Path.{_≡_, refl, sym, _∙_, ap, subst}
 use mathlib.Core.Logic.{⊎-elim, _⊎_, inl, inr}
 use mathlib.Core.Bool.{Bool, true, false, cond, false≢true}
 use mathlib.Core.List.{List, [], _∷_}
-use Prim.Native.Nat.{ℕ, suc, _≤_, _<_}
+use Prim.Native.Nat.{ℕ, suc, _≤_}
 use native.Mathlib.Omega.{arith}
 use lib.ListN.{length}
 use lib.Dec.{eqb}
-use borrow.Author.Tests.{eq-eqb}
 use Rattle.laws.proofs.Tests.{Test, same, apart, test}
 use Rattle.laws.proofs.Members.{In, here, there, nowhere, where-in}
 use Rattle.merging.specs.Numbers.{Ascending, asc-nil, asc-cons}
@@ -70,7 +69,7 @@ module _ (mark : ℕ → ℕ) where
             is-in = there (k .is-in);
             marked = k .marked;
             high = λ s i g.
-              ⊎-elim (λ z. omega (arith, z, l y (k .is-in))) (λ z. k .high s z g) (where-in i);
+                ⊎-elim (λ z. omega (arith, z, l y (k .is-in))) (λ z. k .high s z g) (where-in i);
           })
       more true e is off (last-out f k) = last-in x
           (ap (λ (t : Bool). highest-of mark (cond t x h) ss m) e ∙ f)
@@ -82,6 +81,7 @@ module _ (mark : ℕ → ℕ) where
       more false e is off (last-out f k) = last-out
           (ap (λ (t : Bool). highest-of mark (cond t x h) ss m) e ∙ f)
           (λ s i g. ⊎-elim (λ z. off refl (ap mark (sym z) ∙ g)) (λ z. k s z g) (where-in i))
+
       go : Test (mark x) m (eqb (mark x) m) → ((g : ℕ) → Last g m ss) → Last h m (x ∷ ss)
       go (same f t) ih = more true t (λ _. f) (λ z. absurd (false≢true (sym z))) (ih x)
       go (apart f t) ih = more false t (λ z. absurd (false≢true z)) (λ _. f) (ih h)
@@ -108,13 +108,18 @@ module _ (mark : ℕ → ℕ) where
     where
       c : ℕ
       c = lowest-of mark all (mark s)
+
       later : In h ss × (lowest-of mark all (mark h) ≡ h) → In h (s ∷ ss) × (lowest-of mark all (mark h) ≡ h)
       later k = (there (k .0), k .1)
+
       go : Test c s (eqb c s) → In h (cond (eqb c s) (s ∷ heads mark all ss) (heads mark all ss)) →
           (In h (heads mark all ss) → In h ss × (lowest-of mark all (mark h) ≡ h)) →
           In h (s ∷ ss) × (lowest-of mark all (mark h) ≡ h)
       go (same e t) j ih = ⊎-elim
-          (λ z. (subst (λ (x : ℕ). In x (s ∷ ss)) (sym z) here, ap (λ (x : ℕ). lowest-of mark all (mark x)) z ∙ e ∙ sym z))
+          (λ z. (
+            subst (λ (x : ℕ). In x (s ∷ ss)) (sym z) here,
+            ap (λ (x : ℕ). lowest-of mark all (mark x)) z ∙ e ∙ sym z,
+          ))
           (λ z. later (ih z))
           (where-in (rw t at j))
       go (apart e t) j ih = later (ih (rw t at j))
@@ -126,6 +131,7 @@ module _ (mark : ℕ → ℕ) where
     where
       c : ℕ
       c = lowest-of mark all (mark s)
+
       go : Test c s (eqb c s) → (h ≡ s) ⊎ In h ss → (In h ss → In h (heads mark all ss)) →
           In h (cond (eqb c s) (s ∷ heads mark all ss) (heads mark all ss))
       go (same f t) (inl j) ih = rw (t, j) here

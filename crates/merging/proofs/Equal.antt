@@ -13,7 +13,7 @@ use Rattle.laws.proofs.Tests.{never}
 use Rattle.laws.proofs.Members.{In, here, there, nowhere, where-in}
 use Rattle.paper.specs.Checks.{same-production}
 use Rattle.paper.specs.Shrink.{Node, same-rows, equal, twin, twins}
-use Rattle.merging.specs.Classes.{Rising, rise-nil, rise-cons, Reduced}
+use Rattle.merging.specs.Classes.{Rising, rise-cons, Reduced}
 
 pub same-production-eq : (x y : Option ℕ) → same-production x y ≡ true → x ≡ y
 unfolding same-production
@@ -67,6 +67,7 @@ twin-some x (n ∷ ns) b e = go (equal x n) refl e (twin-some x ns b)
   where
     Found : List Node → Type 0
     Found ms = (y : Node) × In y ms × (equal x y ≡ true) × (y .state ≡ b)
+
     go : (c : Bool) → equal x n ≡ c → cond c (some (n .state)) (twin x ns) ≡ some b →
         (twin x ns ≡ some b → Found ns) → Found (n ∷ ns)
     go true h k ih = (n, here, h, cc)

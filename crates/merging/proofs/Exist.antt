@@ -1,9 +1,8 @@
 -- Marks exist: merging gives them. Assumes that the table's rows climb (`shape` does not refuse).
-use mathlib.Core.Path.{_≡_, refl, sym, _∙_, ap, ap₂, subst}
-use mathlib.Core.Logic.{⊎-elim, _⊎_, inl, inr}
-use mathlib.Core.Bool.{Bool, true, false, false≢true}
+use mathlib.Core.Path.{_≡_, refl, sym, _∙_, ap, subst}
+use mathlib.Core.Bool.{true, false, false≢true}
 use mathlib.Core.Option.{Option, none, some}
-use mathlib.Core.List.{List, [], _∷_}
+use mathlib.Core.List.{List}
 use Prim.Native.Nat.{ℕ}
 use lib.ListN.{length}
 use Rattle.laws.proofs.Members.{In}
@@ -11,11 +10,11 @@ use Rattle.paper.specs.declared.Mode.{Mode}
 use Rattle.paper.specs.declared.Mode.the-variants.{Archive, Intake}
 use Rattle.paper.specs.Rows.{Table, states}
 use Rattle.paper.specs.Checks.{shape}
-use Rattle.paper.specs.Shrink.{Node, production-of, rows-of, nodes, redirect, becomes, gather, gathered, merge-all}
-use Rattle.merging.specs.Classes.{quotient, Class, Reduced, Climbing, Grounded}
+use Rattle.paper.specs.Shrink.{Node, production-of, rows-of, nodes, redirect, becomes, gather, gathered}
+use Rattle.merging.specs.Classes.{quotient, Class, Reduced, Climbing}
 use Rattle.merging.specs.Marks.{compared, Alike, Marks}
 use Rattle.merging.proofs.Redirect.{redirect-redirect}
-use Rattle.merging.proofs.Merging.{Merged, merge-all-good, merge-all-reduced}
+use Rattle.merging.proofs.Merging.{merge-all-good, merge-all-reduced}
 use Rattle.merging.proofs.Unique.{together}
 use Rattle.merging.proofs.Gathered.{gathered-grounded, gathered-le, Became, became, becomes-accepting}
 use Rattle.merging.proofs.Ruled.{node-at, nodes-in, nodes-climb}
@@ -50,10 +49,10 @@ module _ (t : Table) (climbs : shape t ≡ false) where
   unfolding gathered compared
   intake-marks d = record {
     one = λ a b i j e.
-      let h = d .is-class .like (node-at t a) (node-at t b) (nodes-in t a i) (nodes-in t b j) e in
-      record { production = h .0; rows = λ _. h .1 };
+        let h = d .is-class .like (node-at t a) (node-at t b) (nodes-in t a i) (nodes-in t b j) e in
+        record { production = h .0; rows = λ _. h .1 };
     two = λ a b i j h.
-      together (nodes t) (d .class) (d .is-class) (d .reduced) (node-at t a) (node-at t b) (nodes-in t a i)
+        together (nodes t) (d .class) (d .is-class) (d .reduced) (node-at t a) (node-at t b) (nodes-in t a i)
         (nodes-in t b j) (h .production) (h .rows refl);
   }
 
@@ -85,14 +84,16 @@ module _ (t : Table) (climbs : shape t ≡ false) where
         one a b i j e =
             let (x, f) = got a i in
             let (y, g) = got b j in
-            let h = d .is-class .like x y (f .is-in) (g .is-in) (ap (d .class) (f .state) ∙ e ∙ ap (d .class) (sym (g .state))) in
+            let same = ap (d .class) (f .state) ∙ e ∙ ap (d .class) (sym (g .state)) in
+            let h = d .is-class .like x y (f .is-in) (g .is-in) same in
             let production : P a ≡ P b = sym (f .production) ∙ h .0 ∙ g .production in
             record {
               production = production;
               rows = λ z.
-                let plain = counts a z in
-                sym (rows-by a x f plain) ∙ h .1 ∙ rows-by b y g (sym production ∙ plain);
+                  let plain = counts a z in
+                  sym (rows-by a x f plain) ∙ h .1 ∙ rows-by b y g (sym production ∙ plain);
             }
+
         two : (a b : ℕ) → In a ss → In b ss → Alike Archive t mark a b → mark a ≡ mark b
         two a b i j h = go (P a) refl
           where
@@ -101,15 +102,16 @@ module _ (t : Table) (climbs : shape t ≡ false) where
                 let (x, f) = got a i in
                 let (y, g) = got b j in
                 let rows = rows-by a x f e ∙ h .rows (ap (compared Archive) e)
-                  ∙ sym (rows-by b y g (sym (h .production) ∙ e)) in
+                ∙ sym (rows-by b y g (sym (h .production) ∙ e)) in
                 let production : x .production ≡ y .production = f .production ∙ h .production ∙ sym (g .production) in
                 ap (d .class) (sym (f .state))
                 ∙ together (gather (nodes t) (nodes t)) (d .class) (d .is-class) (d .reduced) x y (f .is-in) (g .is-in)
-                  production rows
+                production rows
                 ∙ ap (d .class) (g .state)
             go (some q) e =
                 let low-a = becomes-accepting (nodes t) up (node-at t a) q (nodes-in t a i) e in
-                let low-b = becomes-accepting (nodes t) up (node-at t b) q (nodes-in t b j) (sym (h .production) ∙ e) in
+                let own-b = sym (h .production) ∙ e in
+                let low-b = becomes-accepting (nodes t) up (node-at t b) q (nodes-in t b j) own-b in
                 ap (d .class) (low-a ∙ sym low-b)
 
   pub marks-exist : (mode : Mode) → (mark : ℕ → ℕ) × Marks mode t mark

@@ -1,7 +1,7 @@
 -- The row for a state and a token: in a state's own list of rows, after redirection, and in the table of some marks.
 -- Assumes nothing of the marks.
-use mathlib.Core.Path.{_≡_, refl, sym, _∙_, ap, subst}
-use mathlib.Core.Logic.{⊎-elim, _⊎_, inl, inr}
+use mathlib.Core.Path.{_≡_, refl, sym, _∙_, subst}
+use mathlib.Core.Logic.{_⊎_, inl, inr}
 use mathlib.Core.Bool.{Bool, true, false, cond, _&&_}
 use mathlib.Core.Option.{Option, none, some, Option·map}
 use mathlib.Core.List.{List, [], _∷_, _++_, map}
@@ -9,12 +9,12 @@ use Prim.Native.Nat.{ℕ, _<_}
 use native.Mathlib.Omega.{arith}
 use lib.Dec.{eqb}
 use borrow.Author.Tests.{eq-eqb, ne-eqb}
-use Rattle.laws.proofs.Tests.{Test, same, apart, test, never}
+use Rattle.laws.proofs.Tests.{never}
 use Rattle.laws.proofs.Members.{In, here, there, nowhere, where-in}
-use Rattle.paper.specs.Rows.{Row, Table, find, states}
+use Rattle.paper.specs.Rows.{Row, Table, find}
 use Rattle.paper.specs.Shrink.{rows-of, redirect}
-use Rattle.merging.specs.Numbers.{Ascending, asc-nil, asc-cons}
-use Rattle.merging.specs.Marks.{highest-of, place-among, marked-row, marked-rows}
+use Rattle.merging.specs.Numbers.{Ascending, asc-cons}
+use Rattle.merging.specs.Marks.{source-of, place-among, marked-row, marked-rows}
 use Rattle.merging.proofs.Places.{place-inj}
 
 -- the (terminal, to) of a token
@@ -30,6 +30,7 @@ find-out (r ∷ rs) s u = go (eqb (r .from) s) (eqb (r .terminal) u) refl (find-
   where
     pair : Row → ℕ × ℕ
     pair x = (x .terminal, x .to)
+
     go : (b c : Bool) → eqb (r .terminal) u ≡ c → out (rows-of rs s) u ≡ Option·map pair (find rs s u) →
         out (cond b ((r .terminal, r .to) ∷ rows-of rs s) (rows-of rs s)) u
         ≡ Option·map pair (cond (b && c) (some r) (find rs s u))
@@ -45,6 +46,7 @@ out-redirect f (o ∷ os) u = go (eqb (o .0) u) (out-redirect f os u)
   where
     led : ℕ × ℕ → ℕ × ℕ
     led x = (x .0, f (x .1))
+
     go : (b : Bool) → out (redirect f os) u ≡ Option·map led (out os u) →
         cond b (some (led o)) (out (redirect f os) u) ≡ Option·map led (cond b (some o) (out os u))
     go true ih = refl
@@ -92,7 +94,7 @@ find-right (x ∷ xs) ys s u e = go (eqb (x .from) s && eqb (x .terminal) u) (fi
 
 module _ (mark : ℕ → ℕ) (t : Table) (hs : List ℕ) where
   abbrev h : ℕ → ℕ
-  h s = highest-of mark 0 (states (t .rows)) (mark s)
+  h s = source-of mark t s
 
   find-here : (s u : ℕ) (os : List (ℕ × ℕ)) →
       find (map (marked-row mark t hs s) os) (place-among hs s) u ≡ Option·map (marked-row mark t hs s) (out os u)
@@ -102,7 +104,8 @@ module _ (mark : ℕ → ℕ) (t : Table) (hs : List ℕ) where
       rw (eq-eqb (place-among hs s) (place-among hs s) refl) (go (eqb (o .0) u) (find-here s u os))
     where
       go : (b : Bool) →
-          find (map (marked-row mark t hs s) os) (place-among hs s) u ≡ Option·map (marked-row mark t hs s) (out os u) →
+          find (map (marked-row mark t hs s) os) (place-among hs s) u
+          ≡ Option·map (marked-row mark t hs s) (out os u) →
           cond b (some (marked-row mark t hs s o)) (find (map (marked-row mark t hs s) os) (place-among hs s) u)
           ≡ Option·map (marked-row mark t hs s) (cond b (some o) (out os u))
       go true ih = refl
@@ -120,7 +123,7 @@ module _ (mark : ℕ → ℕ) (t : Table) (hs : List ℕ) where
   find-off-all [] x u off = refl
   find-off-all (s ∷ xs) x u off =
       find-right (map (marked-row mark t hs s) (rows-of (t .rows) (h s))) (marked-rows mark t hs xs) x u
-        (find-off s x u (rows-of (t .rows) (h s)) (off s here))
+      (find-off s x u (rows-of (t .rows) (h s)) (off s here))
       ∙ find-off-all xs x u (λ y i. off y (there i))
 
   pub find-marked : (xs : List ℕ) → Ascending xs → ((x : ℕ) → In x xs → In x hs) → (s : ℕ) → In s xs → (u : ℕ) →
@@ -133,20 +136,25 @@ module _ (mark : ℕ → ℕ) (t : Table) (hs : List ℕ) where
     where
       own : List Row
       own = map (marked-row mark t hs x) (rows-of (t .rows) (h x))
+
       rest : List Row
       rest = marked-rows mark t hs xs
+
       off : (y : ℕ) → In y xs → place-among hs y ≡ place-among hs x → ⊥
       off y j e = let less : x < y = l y j in
           omega (arith, less, place-inj hs y x (sub y (there j)) (sub x here) e)
+
       Found : ℕ → Type 0
       Found y = find (own ++ rest) (place-among hs y) u
           ≡ Option·map (marked-row mark t hs y) (out (rows-of (t .rows) (h y)) u)
+
       first : (o : Option Row) → find own (place-among hs x) u ≡ o → find (own ++ rest) (place-among hs x) u ≡ o
       first none e = find-right own rest (place-among hs x) u e ∙ find-off-all xs (place-among hs x) u off
       first (some r) e = find-left own rest (place-among hs x) u r e
+
       go : (s ≡ x) ⊎ In s xs →
           (In s xs → find rest (place-among hs s) u
-            ≡ Option·map (marked-row mark t hs s) (out (rows-of (t .rows) (h s)) u)) →
+          ≡ Option·map (marked-row mark t hs s) (out (rows-of (t .rows) (h s)) u)) →
           Found s
       go (inl e) ih = subst Found (sym e) (first _ (find-here x u (rows-of (t .rows) (h x))))
       go (inr j) ih = find-right own rest (place-among hs s) u

@@ -1,10 +1,8 @@
 -- The rows of the table of some marks are in range where the table's are.
 -- Assumes marks (`Marks`) of a table whose rows climb (`shape` does not refuse).
-use mathlib.Core.Path.{_≡_, refl, sym, _∙_, ap, subst}
-use mathlib.Core.Logic.{⊎-elim, _⊎_, inl, inr}
+use mathlib.Core.Path.{_≡_, _∙_, ap}
+use mathlib.Core.Logic.{⊎-elim}
 use mathlib.Core.Bool.{Bool, true, false, _&&_}
-use mathlib.Core.Option.{Option}
-use mathlib.Core.List.{List}
 use Prim.Native.Nat.{ℕ, _≤_}
 use native.Mathlib.Omega.{arith}
 use lib.Dec.{leb}
@@ -20,7 +18,7 @@ use Rattle.merging.proofs.Ends.{in-heads}
 use Rattle.merging.proofs.States.{in-states, rows-of-in, rows-of-state}
 use Rattle.merging.proofs.Ruled.{production-cases}
 use Rattle.merging.proofs.Places.{place-low}
-use Rattle.merging.proofs.Shrunk.{low, hs-ascend}
+use Rattle.merging.proofs.Shrunk.{head-lowest, heads-ascending}
 use Rattle.merging.proofs.Output.{in-marked}
 
 -- a row's four bounds
@@ -33,8 +31,10 @@ record Bounds (r : Row) : Type 0 where
 bounds : (r : Row) → row-fits r ≡ true → Bounds r
 unfolding row-fits
 bounds r e =
-    let left = first-of (leb (r .from) 1023 && leb (r .terminal) 65535) (leb (r .to) 1023 && production-fits (r .production)) e in
-    let right = second-of (leb (r .from) 1023 && leb (r .terminal) 65535) (leb (r .to) 1023 && production-fits (r .production)) e in
+    let at-from : Bool = leb (r .from) 1023 && leb (r .terminal) 65535 in
+    let at-to : Bool = leb (r .to) 1023 && production-fits (r .production) in
+    let left = first-of at-from at-to e in
+    let right = second-of at-from at-to e in
     record {
       from = leb-true (r .from) 1023 (first-of (leb (r .from) 1023) (leb (r .terminal) 65535) left);
       terminal = leb-true (r .terminal) 65535 (second-of (leb (r .from) 1023) (leb (r .terminal) 65535) left);
@@ -71,15 +71,15 @@ module _ (mode : Mode) (t : Table) (climbs : shape t ≡ false) (mark : ℕ → 
       let (s, a, o, b, e) = in-marked mark t (heads-of mark t) (heads-of mark t) r i in
       let (x, c, _, f) = rows-of-in (t .rows) (source-of mark t s) o b in
       let to-in = rows-of-state (t .rows) (source-of mark t s) o b in
-      let asc = hs-ascend mode t climbs mark k in
+      let asc = heads-ascending mode t climbs mark k in
       let from-low = place-low (heads-of mark t) asc s in
       let to-low = place-low (heads-of mark t) asc (head-of mark t (o .1)) in
       let s-bound = state-bound s (in-heads mark (states (t .rows)) (states (t .rows)) s a .0) in
-      let head-bound = state-bound (head-of mark t (o .1)) (low mode t climbs mark k (o .1) to-in .is-in) in
+      let head-bound = state-bound (head-of mark t (o .1)) (head-lowest mode t climbs mark k (o .1) to-in .is-in) in
       let from-is : r .from ≡ place-among (heads-of mark t) s = ap (λ (z : Row). z .from) e in
       let to-is : r .to ≡ place-among (heads-of mark t) (head-of mark t (o .1)) = ap (λ (z : Row). z .to) e in
       let terminal-is : r .terminal ≡ x .terminal =
-        ap (λ (z : Row). z .terminal) e ∙ ap (λ (q : ℕ × ℕ). q .0) f in
+      ap (λ (z : Row). z .terminal) e ∙ ap (λ (q : ℕ × ℕ). q .0) f in
       record {
         from = omega (arith, from-is, from-low, s-bound);
         terminal = omega (arith, terminal-is, row-bounds x c .terminal);

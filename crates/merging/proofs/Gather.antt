@@ -77,22 +77,26 @@ gather-in all (m ∷ ns) n i k = go (m .production) refl (where-in i) (λ j. gat
         far : (b : Bool) → Stood (cond b (joined all (m .state) q ∷ gather all ns) (gather all ns)) n
         far true = (s .0, there (s .1), s .2)
         far false = s
+
     now : (o : Option ℕ) → m .production ≡ o → n ≡ m → Stood (put all m o (gather all ns)) n
     now none e z = (lead (becomes all) m, here, ap (λ (y : Node). y .state) (sym z))
     now (some q) e z = far (test (lowest q all) (m .state))
       where
         own : n .production ≡ some q
         own = ap (λ (v : Node). v .production) z ∙ e
+
         stays : lowest q all ≡ m .state
         stays = ⊎-elim
             (λ w. absurd (never (sym w ∙ own)))
             (λ w. let p : w .0 ≡ q = Option·some-injective (w .0) q (sym (w .1) ∙ own) in
-              ap (λ (v : ℕ). lowest v all) (sym p) ∙ w .2 ∙ ap (λ (v : Node). v .state) z)
+            ap (λ (v : ℕ). lowest v all) (sym p) ∙ w .2 ∙ ap (λ (v : Node). v .state) z)
             k
+
         far : Test (lowest q all) (m .state) (eqb (lowest q all) (m .state)) →
             Stood (put all m (some q) (gather all ns)) n
         far (same w t) = rw t (joined all (m .state) q, here, ap (λ (v : Node). v .state) (sym z))
         far (apart w t) = absurd (w stays)
+
     go : (o : Option ℕ) → m .production ≡ o → (n ≡ m) ⊎ In n ns → (In n ns → Stood (gather all ns) n) →
         Stood (put all m o (gather all ns)) n
     go o e (inl z) ih = now o e z

@@ -1,7 +1,7 @@
 -- Archive's gathering keeps nodes rising, closed and with a falling rank, and leaves one accepting node for each
 -- production. Assumes that the nodes climb: states rise, rows lead to higher states of the list.
 use mathlib.Core.Path.{_≡_, refl, sym, _∙_, ap, subst}
-use mathlib.Core.Logic.{⊎-elim, _⊎_, inl, inr}
+use mathlib.Core.Logic.{⊎-elim, inl, inr}
 use mathlib.Core.Bool.{Bool, true, false, cond}
 use mathlib.Core.Option.{Option, none, some, Option·some-injective}
 use mathlib.Core.List.{List, [], _∷_}
@@ -10,15 +10,15 @@ use native.Mathlib.Omega.{arith}
 use lib.ListN.{length}
 use lib.Dec.{eqb}
 use Rattle.laws.proofs.Tests.{never}
-use Rattle.laws.proofs.Members.{In, here, there, nowhere, where-in}
+use Rattle.laws.proofs.Members.{In, nowhere, where-in}
 use Rattle.paper.specs.declared.Mode.{Mode}
 use Rattle.paper.specs.declared.Mode.the-variants.{Archive, Intake}
 use Rattle.paper.specs.Shrink.{Node, redirect, lead, lowest, highest-rows, node-production, becomes, gather, gathered}
 use Rattle.merging.specs.Classes.{Rising, rise-nil, rise-cons, Climbing, Grounded}
 use Rattle.merging.proofs.Redirect.{redirect-in}
 use Rattle.merging.proofs.Merging.{one-state}
-use Rattle.merging.proofs.Accepting.{First, first-node, top-of, Last, last-node, no-node, last-of, production-at}
-use Rattle.merging.proofs.Gather.{joined, put, Source, plain, accepting, in-gather, source-of, Stays, gather-in}
+use Rattle.merging.proofs.Accepting.{first-node, top-of, Last, last-node, no-node, last-of, production-at}
+use Rattle.merging.proofs.Gather.{joined, put, Source, plain, accepting, in-gather, source-of, gather-in}
 
 gather-rises : (all ns : List Node) → Rising ns → Rising (gather all ns)
 unfolding gather lead
@@ -27,6 +27,7 @@ gather-rises all (m ∷ ns) (rise-cons h r) = go (m .production) (gather-rises a
   where
     first : (x : Node) → In x (gather all ns) → m .state < x .state
     first x i = let (n, j, e, _) = source-of (in-gather all ns x i) in omega (arith, h n j, e)
+
     go : (o : Option ℕ) → Rising (gather all ns) → Rising (put all m o (gather all ns))
     go none ih = rise-cons first ih
     go (some q) ih = far (eqb (lowest q all) (m .state))
@@ -99,16 +100,18 @@ module _ (ns : List Node) (k : Climbing ns) where
           let high : height (m .state) ≡ m .state = rw (production-at ns (k .rises) m i ∙ e) in
           let stood = gather-in ns ns m i (inl e) in
           subst (Above (m .state)) (sym (becomes-plain m i e))
-            (omega (arith, high), omega (arith, high, under-ceiling ns m i), stood)
+          (omega (arith, high), omega (arith, high, under-ceiling ns m i), stood)
       go (some q) e =
           let f = first-node q ns (k .rises) m i e in
           let found : node-production ns (lowest q ns) ≡ some q =
-            ap (node-production ns) (sym (f .state)) ∙ production-at ns (k .rises) (f .node) (f .is-in) ∙ f .production in
+          ap (node-production ns) (sym (f .state))
+          ∙ production-at ns (k .rises) (f .node) (f .is-in)
+          ∙ f .production in
           let high : height (lowest q ns) ≡ top-of q 0 ns = rw found in
           let (x, a, b) = gather-in ns ns (f .node) (f .is-in) (inr (q, f .production, sym (f .state))) in
           let t = top-bounds m i q e (last-of q 0 [] ns (k .rises)) in
           subst (Above (m .state)) (sym (becomes-accepting m q i e))
-            (omega (arith, high, t .0), omega (arith, high, t .1), (x, a, b ∙ f .state))
+          (omega (arith, high, t .0), omega (arith, high, t .1), (x, a, b ∙ f .state))
 
   -- the node that a node becomes
   pub record Became (m x : Node) : Type 0 where
@@ -158,6 +161,7 @@ module _ (ns : List Node) (k : Climbing ns) where
     where
       found : (n : Node) → In n ns → x .state ≡ n .state → node-production ns (x .state) ≡ n .production
       found n i e = ap (node-production ns) e ∙ production-at ns (k .rises) n i
+
       go : Source ns ns x → Leads x o
       go (plain n in-n e f) =
           let own : In o (redirect (becomes ns) (n .rows)) = subst (λ (z : Node). In o (z .rows)) f j in
@@ -170,10 +174,13 @@ module _ (ns : List Node) (k : Climbing ns) where
         where
           state : x .state ≡ n .state
           state = ap (λ (z : Node). z .state) f
+
           high : height (x .state) ≡ top-of q 0 ns
           high = rw (found n in-n state ∙ e)
+
           own : In o (redirect (becomes ns) (highest-rows q [] ns))
           own = subst (λ (z : Node). In o (z .rows)) f j
+
           far : Last q 0 [] ns → Leads x o
           far (no-node a b c) = absurd (c n in-n e)
           far (last-node h in-h p a b c) =

@@ -1,28 +1,36 @@
 -- Marks of a table's states are marks of its gathered nodes, in either mode.
 -- Assumes marks (`Marks`) of a table whose rows climb (`shape` does not refuse).
 use mathlib.Core.Path.{_≡_, refl, sym, _∙_, ap, subst}
-use mathlib.Core.Logic.{⊎-elim, _⊎_, inl, inr}
-use mathlib.Core.Bool.{Bool, true, false, cond, false≢true}
+use mathlib.Core.Logic.{inl, inr}
+use mathlib.Core.Bool.{Bool, true, false, false≢true}
 use mathlib.Core.Option.{Option, none, some}
-use mathlib.Core.List.{List, [], _∷_, map}
-use Prim.Native.Nat.{ℕ, _≤_, _<_}
-use native.Mathlib.Omega.{arith}
-use Rattle.laws.proofs.Tests.{never}
+use mathlib.Core.List.{List, []}
+use Prim.Native.Nat.{ℕ}
 use Rattle.laws.proofs.Members.{In}
 use Rattle.paper.specs.declared.Mode.{Mode}
 use Rattle.paper.specs.declared.Mode.the-variants.{Archive, Intake}
-use Rattle.paper.specs.Rows.{Row, Table, states}
+use Rattle.paper.specs.Rows.{Table, states}
 use Rattle.paper.specs.Checks.{shape}
-use Rattle.paper.specs.Shrink.{Node, production-of, rows-of, nodes, redirect, lead, lowest, highest-rows,
-  node-production, becomes, gather, gathered}
-use Rattle.merging.specs.Classes.{Climbing}
-use Rattle.merging.specs.Marks.{lowest-of, highest-of, compared, Alike, Marks}
+use Rattle.paper.specs.Shrink.{
+  Node,
+  production-of,
+  rows-of,
+  nodes,
+  redirect,
+  lead,
+  lowest,
+  highest-rows,
+  node-production,
+  becomes,
+  gather,
+  gathered,
+}
+use Rattle.merging.specs.Marks.{lowest-of, head-of, source-of, compared, Alike, Marks}
 use Rattle.merging.proofs.Redirect.{redirect-redirect, same-redirect}
-use Rattle.merging.proofs.Merging.{one-state}
 use Rattle.merging.proofs.Ends.{Lowest, lowest as lowest-state, lowest-is, Highest, highest-is}
 use Rattle.merging.proofs.ByMarks.{NodeMarks}
-use Rattle.merging.proofs.Accepting.{First, first-node, Last, last-node, no-node, last-of, production-at}
-use Rattle.merging.proofs.Gather.{Source, plain, accepting, in-gather, source-of, gather-in}
+use Rattle.merging.proofs.Accepting.{first-node, Last, last-node, no-node, last-of, production-at}
+use Rattle.merging.proofs.Gather.{Source, plain, accepting, in-gather, gather-in}
 use Rattle.merging.proofs.Gathered.{gather-apart}
 use Rattle.merging.proofs.States.{states-ascend, rows-of-state}
 use Rattle.merging.proofs.Ruled.{node-at, nodes-in, in-nodes, nodes-rise, nodes-climb}
@@ -38,7 +46,7 @@ module _ (t : Table) (climbs : shape t ≡ false) (mark : ℕ → ℕ) where
   ss = states (t .rows)
 
   abbrev c : ℕ → ℕ
-  c s = lowest-of mark (states (t .rows)) (mark s)
+  c s = head-of mark t s
 
   -- ---- archive: the accepting states of one production
 
@@ -59,7 +67,6 @@ module _ (t : Table) (climbs : shape t ≡ false) (mark : ℕ → ℕ) where
     lowest-node s q i e =
         let f = first-node q (nodes t) (nodes-rise t) (node-at t s) (nodes-in t s i) e in
         let (j, is) = in-nodes t (f .node) (f .is-in) in
-        let x : ℕ = f .node .state in
         let px : P (f .node .state) ≡ some q = sym (ap (λ (n : Node). n .production) is) ∙ f .production in
         let low : Lowest mark ss (mark s) (f .node .state) = record {
           is-in = j;
@@ -68,10 +75,11 @@ module _ (t : Table) (climbs : shape t ≡ false) (mark : ℕ → ℕ) where
         } in
         sym (f .state) ∙ sym (lowest-is mark ss (states-ascend (t .rows)) (mark s) (f .node .state) low)
 
-    pub highest-node : (s q : ℕ) → In s ss → P s ≡ some q → highest-rows q [] (nodes t) ≡ R (highest-of mark 0 ss (mark s))
+    pub highest-node : (s q : ℕ) → In s ss → P s ≡ some q →
+        highest-rows q [] (nodes t) ≡ R (source-of mark t s)
     highest-node s q i e = go (last-of q 0 [] (nodes t) (nodes-rise t))
       where
-        go : Last q 0 [] (nodes t) → highest-rows q [] (nodes t) ≡ R (highest-of mark 0 ss (mark s))
+        go : Last q 0 [] (nodes t) → highest-rows q [] (nodes t) ≡ R (source-of mark t s)
         go (no-node a b none-of) = absurd (none-of (node-at t s) (nodes-in t s i) e)
         go (last-node h in-h p a b above) =
             let (j, is) = in-nodes t h in-h in
@@ -91,6 +99,7 @@ module _ (t : Table) (climbs : shape t ≡ false) (mark : ℕ → ℕ) where
       where
         at : node-production (nodes t) s ≡ P s
         at = production-at (nodes t) (nodes-rise t) (node-at t s) (nodes-in t s i)
+
         go : (o : Option ℕ) → P s ≡ o → mark (becomes (nodes t) s) ≡ mark s
         go none e = ap mark (rw (at ∙ e, becomes))
         go (some q) e =
@@ -104,7 +113,7 @@ module _ (t : Table) (climbs : shape t ≡ false) (mark : ℕ → ℕ) where
   redirect-becomes k f by s =
       redirect-redirect f (becomes (nodes t)) (R s)
       ∙ same-redirect (λ x. f (becomes (nodes t) x)) f (R s)
-        (λ o i. by (becomes (nodes t) (o .1)) (o .1) (becomes-mark k (o .1) (rows-of-state (t .rows) s o i)))
+      (λ o i. by (becomes (nodes t) (o .1)) (o .1) (becomes-mark k (o .1) (rows-of-state (t .rows) s o i)))
 
   -- ---- either mode: what a gathered node has of its state
 
@@ -127,9 +136,9 @@ module _ (t : Table) (climbs : shape t ≡ false) (mark : ℕ → ℕ) where
           let (l, is) = in-nodes t n j in
           let state : x .state ≡ n .state = ap (λ (y : Node). y .state) f in
           let rows : x .rows ≡ redirect (becomes (nodes t)) (R (x .state)) =
-            ap (λ (y : Node). y .rows) f
-            ∙ ap (λ (y : Node). redirect (becomes (nodes t)) (y .rows)) is
-            ∙ ap (λ (y : ℕ). redirect (becomes (nodes t)) (R y)) (sym state) in
+          ap (λ (y : Node). y .rows) f
+          ∙ ap (λ (y : Node). redirect (becomes (nodes t)) (y .rows)) is
+          ∙ ap (λ (y : ℕ). redirect (becomes (nodes t)) (R y)) (sym state) in
           record {
             is-state = subst (λ (y : ℕ). In y ss) (sym state) l;
             production = ap (λ (y : Node). y .production) f ∙ ap (λ (y : Node). y .production) is ∙ ap P (sym state);
@@ -139,7 +148,7 @@ module _ (t : Table) (climbs : shape t ≡ false) (mark : ℕ → ℕ) where
           let (l, is) = in-nodes t n j in
           let state : x .state ≡ n .state = ap (λ (y : Node). y .state) f in
           let own : x .production ≡ P (x .state) =
-            ap (λ (y : Node). y .production) f ∙ sym e ∙ ap (λ (y : Node). y .production) is ∙ ap P (sym state) in
+          ap (λ (y : Node). y .production) f ∙ sym e ∙ ap (λ (y : Node). y .production) is ∙ ap P (sym state) in
           let accepts : P (x .state) ≡ some q = sym own ∙ ap (λ (y : Node). y .production) f in
           record {
             is-state = subst (λ (y : ℕ). In y ss) (sym state) l;
@@ -163,24 +172,30 @@ module _ (t : Table) (climbs : shape t ≡ false) (mark : ℕ → ℕ) where
     where
       G : List Node
       G = gathered mode (nodes t)
+
       one : (n m : Node) → In n G → In m G → mark (n .state) ≡ mark (m .state) →
           (n .production ≡ m .production) × (redirect mark (n .rows) ≡ redirect mark (m .rows))
       one n m i j e = (same, go (compared mode (n .production)) refl)
         where
           a : Has mode n
           a = has mode k n i
+
           b : Has mode m
           b = has mode k m j
+
           alike : Alike mode t mark (n .state) (m .state)
           alike = k .one (n .state) (m .state) (a .is-state) (b .is-state) e
+
           same : n .production ≡ m .production
           same = a .production ∙ alike .production ∙ sym (b .production)
+
           go : (t : Bool) → compared mode (n .production) ≡ t → redirect mark (n .rows) ≡ redirect mark (m .rows)
           go true h =
               let left = ap (compared mode) (sym (a .production)) ∙ h in
               let right = ap (compared mode) (sym (b .production) ∙ sym same) ∙ h in
               a .rows left ∙ alike .rows left ∙ sym (b .rows right)
           go false h = ap (λ (x : Node). redirect mark (x .rows)) (single mode n m i j h same)
+
       two : (n m : Node) → In n G → In m G → n .production ≡ m .production →
           redirect mark (n .rows) ≡ redirect mark (m .rows) → mark (n .state) ≡ mark (m .state)
       two n m i j e f =
@@ -199,10 +214,12 @@ module _ (t : Table) (climbs : shape t ≡ false) (mark : ℕ → ℕ) where
   pub lowest-stays : (mode : Mode) → Marks mode t mark → (x : Node) → In x (gathered mode (nodes t)) →
       (m : Node) × In m (gathered mode (nodes t)) × (m .state ≡ c (x .state))
   unfolding gathered
-  lowest-stays mode k x i = go mode k (lowest-state mark ss (states-ascend (t .rows)) s (mark s) (node-state mode k x i) refl)
+  lowest-stays mode k x i =
+      go mode k (lowest-state mark ss (states-ascend (t .rows)) s (mark s) (node-state mode k x i) refl)
     where
       s : ℕ
       s = x .state
+
       go : (mode : Mode) → Marks mode t mark → Lowest mark ss (mark s) (c s) →
           (m : Node) × In m (gathered mode (nodes t)) × (m .state ≡ c s)
       go Intake k l = (node-at t (c s), nodes-in t (c s) (l .is-in), refl)
@@ -211,5 +228,6 @@ module _ (t : Table) (climbs : shape t ≡ false) (mark : ℕ → ℕ) where
           far : (o : Option ℕ) → P (c s) ≡ o → (m : Node) × In m (gather (nodes t) (nodes t)) × (m .state ≡ c s)
           far none e = gather-in (nodes t) (nodes t) (node-at t (c s)) (nodes-in t (c s) (l .is-in)) (inl e)
           far (some q) e =
-              let low : lowest q (nodes t) ≡ c s = lowest-node k (c s) q (l .is-in) e ∙ ap (lowest-of mark ss) (l .marked) in
+              let low : lowest q (nodes t) ≡ c s =
+              lowest-node k (c s) q (l .is-in) e ∙ ap (lowest-of mark ss) (l .marked) in
               gather-in (nodes t) (nodes t) (node-at t (c s)) (nodes-in t (c s) (l .is-in)) (inr (q, e, low))

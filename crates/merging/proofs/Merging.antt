@@ -10,10 +10,10 @@ use native.Mathlib.Omega.{arith}
 use lib.ListN.{length}
 use lib.Dec.{eqb}
 use borrow.Author.Tests.{eq-eqb}
-use Rattle.laws.proofs.Members.{In, here, there, nowhere, where-in}
+use Rattle.laws.proofs.Members.{In, nowhere, where-in}
 use Rattle.paper.specs.Shrink.{Node, redirect, lead, twins, merge, merge-all}
-use Rattle.merging.specs.Classes.{Rising, rise-nil, rise-cons, quotient, Class, Reduced}
-use Rattle.merging.proofs.Equal.{equal-eq, Twins, twins-some, no-twins}
+use Rattle.merging.specs.Classes.{Rising, rise-cons, quotient, Class, Reduced}
+use Rattle.merging.proofs.Equal.{equal-eq, twins-some, no-twins}
 use Rattle.merging.proofs.Redirect.{redirect-id}
 use Rattle.merging.proofs.Quotient.{in-quotient, rising-quotient, next, next-class, merge-quotient}
 
@@ -62,15 +62,15 @@ module _ (ns : List Node) (r : Rising ns) where
           let h = equal-eq (p .lower) (p .higher) (p .equals) in
           let ordered : n .state < m .state = omega (arith, p .ordered (rising-quotient c ns r), a, b) in
           let eq-production : n .production ≡ m .production =
-            ap (λ (x : Node). x .production) (sym e₁) ∙ h .0 ∙ ap (λ (x : Node). x .production) e₂ in
+          ap (λ (x : Node). x .production) (sym e₁) ∙ h .0 ∙ ap (λ (x : Node). x .production) e₂ in
           let eq-rows : redirect c (n .rows) ≡ redirect c (m .rows) =
-            ap (λ (x : Node). x .rows) (sym e₁) ∙ h .1 ∙ ap (λ (x : Node). x .rows) e₂ in
+          ap (λ (x : Node). x .rows) (sym e₁) ∙ h .1 ∙ ap (λ (x : Node). x .rows) e₂ in
           let more = ih (next ns c k n m in-n in-m root-n root-m ordered eq-production eq-rows)
-            (next-class ns c k n m in-n in-m root-n root-m ordered eq-production eq-rows) in
+          (next-class ns c k n m in-n in-m root-n root-m ordered eq-production eq-rows) in
           let is = merge-quotient ns c k n m in-n in-m root-n root-m ordered eq-production eq-rows ns in
           subst (λ (L : List Node). Merged ns (merge-all turns L))
-            (sym (ap₂ (λ (x y : ℕ). merge x y (quotient c ns)) (sym a) (sym b) ∙ is))
-            more
+          (sym (ap₂ (λ (x y : ℕ). merge x y (quotient c ns)) (sym a) (sym b) ∙ is))
+          more
 
   each-its-own : Class ns (λ s. s)
   each-its-own = record {
@@ -78,13 +78,14 @@ module _ (ns : List Node) (r : Rising ns) where
     idem = λ n i. refl;
     home = λ n i. (n, i, refl);
     like = λ n m i j e.
-      let z = one-state ns r n m i j e in
-      (ap (λ (x : Node). x .production) z, ap (λ (x : Node). redirect (λ s. s) (x .rows)) z);
+        let z = one-state ns r n m i j e in
+        (ap (λ (x : Node). x .production) z, ap (λ (x : Node). redirect (λ s. s) (x .rows)) z);
   }
 
   pub merge-all-good : (turns : ℕ) → Merged ns (merge-all turns ns)
   merge-all-good turns =
-      subst (λ (L : List Node). Merged ns (merge-all turns L)) (quotient-id ns) (merge-more turns (λ s. s) each-its-own)
+      let first = merge-more turns (λ s. s) each-its-own in
+      subst (λ (L : List Node). Merged ns (merge-all turns L)) (quotient-id ns) first
 
 -- ---- each turn takes a node away
 

@@ -1,10 +1,10 @@
 -- The rows of the table of some marks: they rise, are in range, and no more than the table's; nor are the states.
 -- Assumes marks (`Marks`) of a table whose rows climb, and rise or are in range where a law says so.
 use mathlib.Core.Path.{_≡_, refl, sym, _∙_, ap, ap₂, subst}
-use mathlib.Core.Logic.{⊎-elim, _⊎_, inl, inr}
-use mathlib.Core.Bool.{Bool, true, false, cond}
-use mathlib.Core.Option.{Option, none, some}
-use mathlib.Core.List.{List, [], _∷_, _++_, map, List·Memᴰ·append-cases, Memᴰ·append-left, Memᴰ·append-right}
+use mathlib.Core.Logic.{⊎-elim, inl, inr}
+use mathlib.Core.Bool.{cond}
+use mathlib.Core.Option.{some}
+use mathlib.Core.List.{List, [], _∷_, map, List·Memᴰ·append-cases, Memᴰ·append-left, Memᴰ·append-right}
 use Prim.Native.Nat.{ℕ, suc, _+_, _≤_, _<_}
 use native.Mathlib.Omega.{arith}
 use lib.ListN.{length, length-append, length-map}
@@ -15,8 +15,8 @@ use Rattle.laws.proofs.Members.{In, here, there, nowhere, where-in, in-map, map
 use Rattle.laws.proofs.RowsRise.{Before, RowsRise, rows-nil, rows-cons, rise-append}
 use Rattle.paper.specs.Rows.{Row, Table, states}
 use Rattle.paper.specs.Shrink.{rows-of}
-use Rattle.merging.specs.Numbers.{Ascending, asc-nil, asc-cons}
-use Rattle.merging.specs.Marks.{highest-of, heads, place-among, marked-row, marked-rows}
+use Rattle.merging.specs.Numbers.{Ascending, asc-cons}
+use Rattle.merging.specs.Marks.{source-of, place-among, marked-row, marked-rows}
 use Rattle.merging.proofs.Places.{place-lt}
 use Rattle.merging.proofs.States.{rows-of-in}
 
@@ -24,7 +24,7 @@ use Rattle.merging.proofs.States.{rows-of-in}
 
 module _ (mark : ℕ → ℕ) (t : Table) (hs : List ℕ) where
   abbrev h : ℕ → ℕ
-  h s = highest-of mark 0 (states (t .rows)) (mark s)
+  h s = source-of mark t s
 
   pub in-marked : (xs : List ℕ) (r : Row) → In r (marked-rows mark t hs xs) →
       (s : ℕ) × In s xs × (o : ℕ × ℕ) × In o (rows-of (t .rows) (h s)) × (r ≡ marked-row mark t hs s o)
@@ -41,10 +41,10 @@ module _ (mark : ℕ → ℕ) (t : Table) (hs : List ℕ) where
   marked-in [] s o i j = absurd (nowhere i)
   marked-in (x ∷ xs) s o i j = ⊎-elim
       (λ e. Memᴰ·append-left (marked-rows mark t hs xs)
-        (subst
-          (λ (z : ℕ). In (marked-row mark t hs s o) (map (marked-row mark t hs z) (rows-of (t .rows) (h z))))
-          e
-          (in-map (marked-row mark t hs s) (rows-of (t .rows) (h s)) o j)))
+      (subst
+      (λ (z : ℕ). In (marked-row mark t hs s o) (map (marked-row mark t hs z) (rows-of (t .rows) (h z))))
+      e
+      (in-map (marked-row mark t hs s) (rows-of (t .rows) (h s)) o j)))
       (λ k. Memᴰ·append-right (map (marked-row mark t hs x) (rows-of (t .rows) (h x))) (marked-in xs s o k j))
       (where-in i)
 
@@ -64,9 +64,10 @@ rows-of-rise (r ∷ rs) s (rows-cons k a) = go (test (r .from) s) (rows-of-rise 
     first l p i =
         let (x, j, e, f) = rows-of-in rs s p i in
         ⊎-elim
-          (λ z. absurd (omega (arith, z, e, l)))
-          (λ z. omega (arith, z .1, ap (λ (q : ℕ × ℕ). q .0) f))
-          (k x j)
+        (λ z. absurd (omega (arith, z, e, l)))
+        (λ z. omega (arith, z .1, ap (λ (q : ℕ × ℕ). q .0) f))
+        (k x j)
+
     go : Test (r .from) s (eqb (r .from) s) → TermsRise (rows-of rs s) →
         TermsRise (cond (eqb (r .from) s) ((r .terminal, r .to) ∷ rows-of rs s) (rows-of rs s))
     go (same l e) ih = rw e (terms-cons {o = (r .terminal, r .to)} {os = rows-of rs s} (first l) ih)
@@ -78,8 +79,8 @@ module _ (mark : ℕ → ℕ) (t : Table) (hs : List ℕ) where
   state-rise s [] a = rows-nil
   state-rise s (o ∷ os) (terms-cons k a) = rows-cons
       (λ x i.
-        let (p, j, e) = map-in (marked-row mark t hs s) os x i in
-        subst (λ (z : Row). Before (marked-row mark t hs s o) z) (sym e) (inr (refl, k p j)))
+      let (p, j, e) = map-in (marked-row mark t hs s) os x i in
+      subst (λ (z : Row). Before (marked-row mark t hs s o) z) (sym e) (inr (refl, k p j)))
       (state-rise s os a)
 
   pub marked-rise : RowsRise (t .rows) → (xs : List ℕ) → Ascending xs → ((x : ℕ) → In x xs → In x hs) →
@@ -92,11 +93,11 @@ module _ (mark : ℕ → ℕ) (t : Table) (hs : List ℕ) where
       (state-rise x (rows-of (t .rows) (h mark t hs x)) (rows-of-rise (t .rows) (h mark t hs x) a))
       (marked-rise a xs asc (λ y i. sub y (there i)))
       (λ y z i j.
-        let (o, _, e) = map-in (marked-row mark t hs x) (rows-of (t .rows) (h mark t hs x)) y i in
-        let (s, k, p, _, f) = in-marked mark t hs xs z j in
-        let from-y : y .from ≡ place-among hs x = ap (λ (w : Row). w .from) e in
-        let from-z : z .from ≡ place-among hs s = ap (λ (w : Row). w .from) f in
-        inl (omega (arith, from-y, from-z, place-lt hs x s (sub x here) (l s k))))
+      let (o, _, e) = map-in (marked-row mark t hs x) (rows-of (t .rows) (h mark t hs x)) y i in
+      let (s, k, p, _, f) = in-marked mark t hs xs z j in
+      let from-y : y .from ≡ place-among hs x = ap (λ (w : Row). w .from) e in
+      let from-z : z .from ≡ place-among hs s = ap (λ (w : Row). w .from) f in
+      inl (omega (arith, from-y, from-z, place-lt hs x s (sub x here) (l s k))))
 
 -- ---- how many there are
 
@@ -153,10 +154,10 @@ module _ (mark : ℕ → ℕ) (t : Table) (hs : List ℕ) where
   highs-different [] asc inj = different-nil
   highs-different (x ∷ xs) (asc-cons l asc) inj = different-cons
       (λ y i e.
-        let (z, j, f) = map-in (h mark t hs) xs y i in
-        let eq : x ≡ z = inj x z here (there j) (e ∙ f) in
-        let less : x < z = l z j in
-        omega (arith, eq, less))
+      let (z, j, f) = map-in (h mark t hs) xs y i in
+      let eq : x ≡ z = inj x z here (there j) (e ∙ f) in
+      let less : x < z = l z j in
+      omega (arith, eq, less))
       (highs-different xs asc (λ y z i j. inj y z (there i) (there j)))
 
   pub marked-length : (xs : List ℕ) → Ascending xs →

@@ -1,16 +1,16 @@
 -- Places among numbers: how many are lower. Assumes nothing, or that the numbers rise.
-use mathlib.Core.Path.{_≡_, refl, sym, _∙_, ap}
-use mathlib.Core.Logic.{⊎-elim, _⊎_, inl, inr}
+use mathlib.Core.Path.{_≡_, refl, ap}
+use mathlib.Core.Logic.{_⊎_, inl, inr}
 use mathlib.Core.Bool.{Bool, true, false, cond}
 use mathlib.Core.List.{List, [], _∷_}
-use Prim.Native.Nat.{ℕ, zero, suc, _+_, _-_, _≤_, _<_}
+use Prim.Native.Nat.{ℕ, zero, suc, _-_, _≤_, _<_}
 use native.Mathlib.Omega.{arith}
 use lib.ListN.{length}
 use lib.Dec.{eqb, ltb}
 use borrow.Author.Tests.{lt-ltb, le-ltb}
 use Rattle.laws.proofs.Tests.{Test, same, apart, test, Below, is-below, not-below, below?}
 use Rattle.laws.proofs.Members.{In, here, there, nowhere, where-in}
-use Rattle.merging.specs.Numbers.{Ascending, asc-nil, asc-cons}
+use Rattle.merging.specs.Numbers.{Ascending, asc-cons}
 use Rattle.merging.specs.Marks.{place-among}
 
 place-le : (xs : List ℕ) (a b : ℕ) → a ≤ b → place-among xs a ≤ place-among xs b

@@ -25,6 +25,7 @@ in-quotient c (n ∷ ns) x i = go (test (c (n .state)) (n .state)) i (in-quotien
   where
     later : Root c ns x → Root c (n ∷ ns) x
     later k = (k .0, there (k .1), k .2, k .3)
+
     go : Test (c (n .state)) (n .state) (eqb (c (n .state)) (n .state)) →
         In x (cond (eqb (c (n .state)) (n .state)) (lead c n ∷ quotient c ns) (quotient c ns)) →
         (In x (quotient c ns) → Root c ns x) → Root c (n ∷ ns) x
@@ -53,6 +54,7 @@ rising-quotient c (n ∷ ns) (rise-cons h r) = go (eqb (c (n .state)) (n .state)
   where
     lower : (m : Node) → In m (quotient c ns) → n .state < m .state
     lower m i = let (x, j, e, l) = in-quotient c ns m i in subst (λ (z : Node). n .state < z .state) (sym e) (h x j)
+
     go : (b : Bool) → Rising (quotient c ns) → Rising (cond b (lead c n ∷ quotient c ns) (quotient c ns))
     go true ih = rise-cons lower ih
     go false ih = ih
@@ -100,8 +102,10 @@ module _ (ns : List Node) (c : ℕ → ℕ) (k : Class ns c) (n m : Node) (in-n 
     where
       keep-a : next a ≡ a
       keep-a = next-off a (λ e. omega (arith, ordered, root-n, e)) ∙ root-n
+
       keep-c : (c (x .state) ≡ b → ⊥) → next (c (x .state)) ≡ c (x .state)
       keep-c e = next-off (c (x .state)) (λ z. e (sym (k .idem x i) ∙ z)) ∙ k .idem x i
+
       go : Test (c (x .state)) b (eqb (c (x .state)) b) → next (next (x .state)) ≡ next (x .state)
       go (same e _) = ap next (next-at (x .state) e) ∙ keep-a ∙ sym (next-at (x .state) e)
       go (apart e _) = ap next (next-off (x .state) e) ∙ keep-c e ∙ sym (next-off (x .state) e)
@@ -156,16 +160,20 @@ module _ (ns : List Node) (c : ℕ → ℕ) (k : Class ns c) (n m : Node) (in-n 
     where
       s : ℕ
       s = x .state
+
       keeps : c s ≡ s → (s ≡ b → ⊥) → next s ≡ s
       keeps p q = next-off s (λ e. q (sym p ∙ e)) ∙ p
+
       drops-b : s ≡ b → next s ≡ s → ⊥
       drops-b q e = omega (arith, ordered, q, sym (next-at s (ap c q ∙ root-m)) ∙ e)
+
       drops : (c s ≡ s → ⊥) → next s ≡ s → ⊥
       drops p e = far (test (c s) b)
         where
           far : Test (c s) b (eqb (c s) b) → ⊥
           far (same q _) = let z : a ≡ s = sym (next-at s q) ∙ e in p (ap c (sym z) ∙ root-n ∙ z)
           far (apart q _) = p (sym (next-off s q) ∙ e)
+
       go : Test (c s) s (eqb (c s) s) → Test s b (eqb s b) → merge a b (quotient c xs) ≡ quotient next xs →
           merge a b (cond (eqb (c s) s) (lead c x ∷ quotient c xs) (quotient c xs))
           ≡ cond (eqb (next s) s) (lead next x ∷ quotient next xs) (quotient next xs)

@@ -1,10 +1,9 @@
 -- Rows led elsewhere, once, twice and by functions that agree. Assumes nothing.
-use mathlib.Core.Path.{_≡_, refl, sym, _∙_, ap}
-use mathlib.Core.Logic.{⊎-elim}
-use mathlib.Core.List.{List, [], _∷_, map, nil≢cons, head-eq-of-cons-eq, tail-eq-of-cons-eq}
-use Prim.Native.Nat.{ℕ, suc}
+use mathlib.Core.Path.{_≡_, refl, sym, ap}
+use mathlib.Core.List.{List, [], _∷_, nil≢cons, head-eq-of-cons-eq, tail-eq-of-cons-eq}
+use Prim.Native.Nat.{ℕ}
 use lib.ListN.{length, length-map}
-use Rattle.laws.proofs.Members.{In, here, there, nowhere, where-in, map-in}
+use Rattle.laws.proofs.Members.{In, here, there, map-in}
 use Rattle.paper.specs.Shrink.{redirect}
 
 pub redirect-redirect : (f g : ℕ → ℕ) (os : List (ℕ × ℕ)) →

@@ -2,9 +2,9 @@
 use mathlib.Core.Path.{_≡_, refl, sym, _∙_, ap, subst}
 use mathlib.Core.Logic.{⊎-elim, _⊎_, inl, inr}
 use mathlib.Core.Bool.{Bool, true, false, cond, not, _&&_}
-use mathlib.Core.Option.{Option, none, some}
+use mathlib.Core.Option.{Option}
 use mathlib.Core.List.{List, [], _∷_, map}
-use Prim.Native.Nat.{ℕ, suc, _≤_, _<_}
+use Prim.Native.Nat.{ℕ, _<_}
 use native.Mathlib.Omega.{arith}
 use lib.Dec.{eqb, leb}
 use borrow.Author.Tests.{eq-eqb, eqb-true, leb-false, not-false}
@@ -14,10 +14,10 @@ use Rattle.laws.proofs.Members.{In, here, there, nowhere, where-in, in-map, map
 use Rattle.paper.specs.Rows.{Row, Table, states}
 use Rattle.paper.specs.Checks.{shape, loose, split, same-production, any}
 use Rattle.paper.specs.Shrink.{Node, production-of, rows-of, nodes}
-use Rattle.merging.specs.Numbers.{Ascending, asc-nil, asc-cons}
+use Rattle.merging.specs.Numbers.{Ascending, asc-cons}
 use Rattle.merging.specs.Classes.{Rising, rise-nil, rise-cons, Climbing}
 use Rattle.merging.proofs.Equal.{same-production-eq}
-use Rattle.merging.proofs.States.{states-ascend, zero-state, to-state, in-states, rows-of-in, rows-of-state}
+use Rattle.merging.proofs.States.{states-ascend, zero-state, to-state, rows-of-in, rows-of-state}
 
 -- ---- nodes
 
@@ -59,11 +59,11 @@ pub nodes-climb : (t : Table) → shape t ≡ false → Climbing (nodes t)
 nodes-climb t h = record {
   rises = nodes-rise t;
   climbs = λ n i o j.
-    let (r, k, a, b) = row n i o j in
-    omega (arith, rows-climb t h r k, a, ap (λ (q : ℕ × ℕ). q .1) b);
+      let (r, k, a, b) = row n i o j in
+      omega (arith, rows-climb t h r k, a, ap (λ (q : ℕ × ℕ). q .1) b);
   closed = λ n i o j.
-    let own = subst (λ (x : Node). In o (x .rows)) (in-nodes t n i .1) j in
-    (node-at t (o .1), nodes-in t (o .1) (rows-of-state (t .rows) (n .state) o own), refl);
+      let own = subst (λ (x : Node). In o (x .rows)) (in-nodes t n i .1) j in
+      (node-at t (o .1), nodes-in t (o .1) (rows-of-state (t .rows) (n .state) o own), refl);
 }
   where
     row : (n : Node) → In n (nodes t) → (o : ℕ × ℕ) → In o (n .rows) →
@@ -81,11 +81,15 @@ production-cases p (r ∷ rs) s = go (test (r .to) s) (production-cases p rs s)
     At : List Row → Option ℕ → Type 0
     At xs o = ((o ≡ p) × ((x : Row) → In x xs → x .to ≡ s → ⊥))
         ⊎ ((x : Row) × In x xs × (x .to ≡ s) × (o ≡ x .production))
+
     go : Test (r .to) s (eqb (r .to) s) → At rs (production-of p rs s) →
         At (r ∷ rs) (cond (eqb (r .to) s) (r .production) (production-of p rs s))
     go (same h e) k = inr (r, here, h, rw e)
-    go (apart h e) (inl k) = inl (rw e (k .0), λ x i f.
-        ⊎-elim (λ z. h (ap (λ (y : Row). y .to) (sym z) ∙ f)) (λ z. k .1 x z f) (where-in i))
+    go (apart h e) (inl k) = inl (
+      rw e (k .0),
+      λ x i f.
+          ⊎-elim (λ z. h (ap (λ (y : Row). y .to) (sym z) ∙ f)) (λ z. k .1 x z f) (where-in i),
+    )
     go (apart h e) (inr k) = inr (k .0, there (k .1), k .2, rw e (k .3))
 
 pub zero-production : (t : Table) → shape t ≡ false → production-of (t .prod0) (t .rows) 0 ≡ t .prod0
@@ -105,6 +109,7 @@ row-production t h r i = ⊎-elim
   where
     differ : Row → Row → Bool
     differ r x = eqb (x .to) (r .to) && not (same-production (x .production) (r .production))
+
     agree : (x : Row) → In x (t .rows) → x .to ≡ r .to → same-production (x .production) (r .production) ≡ true
     agree x j e =
         let none-of = any-in (λ (y : Row). any (differ y) (t .rows)) (t .rows) h r i in
@@ -120,11 +125,12 @@ from-state t h r i = go (test (r .from) 0)
   where
     into : Row → Row → Bool
     into r x = eqb (x .to) (r .from)
+
     go : Test (r .from) 0 (eqb (r .from) 0) → In (r .from) (states (t .rows))
     go (same e _) = subst (λ (z : ℕ). In z (states (t .rows))) (sym e) (zero-state (t .rows))
     go (apart e f) =
         let is : not (eqb (r .from) 0) && not (any (into r) (t .rows)) ≡ false =
-          any-in (λ (y : Row). not (eqb (y .from) 0) && not (any (into y) (t .rows))) (t .rows) h r i in
+        any-in (λ (y : Row). not (eqb (y .from) 0) && not (any (into y) (t .rows))) (t .rows) h r i in
         let some-row : any (into r) (t .rows) ≡ true = not-false (any (into r) (t .rows)) (rw f at is) in
         let (x, j, g) = any-some (into r) (t .rows) some-row in
         subst (λ (z : ℕ). In z (states (t .rows))) (eqb-true (x .to) (r .from) g) (to-state (t .rows) x j)

@@ -1,36 +1,52 @@
 -- Shrinking gives the table of the marks, in either mode.
 -- Assumes marks (`Marks`) of a table whose rows climb (`shape` does not refuse).
 use mathlib.Core.Path.{_≡_, refl, sym, _∙_, ap, ap₂, subst}
-use mathlib.Core.Logic.{⊎-elim, _⊎_, inl, inr}
 use mathlib.Core.Bool.{Bool, true, false, cond}
 use mathlib.Core.Option.{Option, none, some}
 use mathlib.Core.List.{List, [], _∷_, _++_, map}
 use Prim.Native.Nat.{ℕ, suc, _<_}
+use native.Mathlib.Omega.{arith}
 use lib.ListN.{length, length-map}
 use lib.Dec.{eqb, ltb}
-use borrow.Author.Tests.{eq-eqb}
 use Rattle.laws.proofs.Tests.{Test, same, apart, test}
-use Rattle.laws.proofs.Members.{In, here, there, nowhere, where-in, in-map, map-in}
+use Rattle.laws.proofs.Members.{In, here, there, in-map, map-in}
 use Rattle.paper.specs.declared.Mode.{Mode}
 use Rattle.paper.specs.declared.Mode.the-variants.{Archive, Intake}
 use Rattle.paper.specs.Rows.{Row, Table, states}
-use Rattle.paper.specs.Answers.{Made}
 use Rattle.paper.specs.Checks.{shape}
-use Rattle.paper.specs.Shrink.{Node, production-of, rows-of, nodes, redirect, lead, lowest, highest-rows,
-  node-production, becomes, gather, gathered, merge-all, place, node-rows, shrunk}
-use Rattle.merging.specs.Numbers.{Ascending, asc-nil, asc-cons}
+use Rattle.paper.specs.Shrink.{
+  Node,
+  production-of,
+  rows-of,
+  nodes,
+  redirect,
+  lead,
+  lowest,
+  highest-rows,
+  node-production,
+  becomes,
+  gather,
+  gathered,
+  merge-all,
+  place,
+  node-rows,
+  shrunk,
+}
+use Rattle.merging.specs.Numbers.{Ascending, asc-cons}
 use Rattle.merging.specs.Classes.{Rising, rise-nil, rise-cons, quotient}
-use Rattle.merging.specs.Marks.{lowest-of, highest-of, heads, place-among, marked-row, marked-rows, marked,
-  compared, Alike, Marks}
+use Rattle.merging.specs.Marks.{lowest-of, head-of, source-of, heads, heads-of, place-among, place-of}
+use Rattle.merging.specs.Marks.{marked-row, marked-rows, marked, compared, Marks}
 use Rattle.merging.proofs.Redirect.{redirect-over}
 use Rattle.merging.proofs.ByMarks.{by-marks-among}
-use Rattle.merging.proofs.Ends.{Lowest, lowest as lowest-state, Highest, highest, in-heads, heads-in, heads-ascend}
+use Rattle.merging.proofs.Ends.{Lowest, lowest as lowest-state, Highest, highest, heads-in, heads-ascend}
 use Rattle.merging.proofs.Accepting.{production-at}
-use Rattle.merging.proofs.Gather.{joined, put}
+use Rattle.merging.proofs.Gather.{put}
 use Rattle.merging.proofs.Gathered.{mode-rank, gathered-grounded, gathered-le}
-use Rattle.merging.proofs.States.{states-ascend, rows-of-state}
+use Rattle.merging.proofs.Places.{place-zero}
+use Rattle.merging.proofs.States.{states-ascend, zero-state, rows-of-state}
 use Rattle.merging.proofs.Ruled.{node-at, nodes-climb}
-use Rattle.merging.proofs.Marked.{lowest-node, highest-node, redirect-becomes, node-marks, node-state, lowest-stays}
+use Rattle.merging.proofs.Marked.{lowest-node, highest-node, redirect-becomes}
+use Rattle.merging.proofs.Marked.{node-marks, node-state, lowest-stays}
 
 module _ (mode : Mode) (t : Table) (climbs : shape t ≡ false) (mark : ℕ → ℕ) (k : Marks mode t mark) where
   abbrev P : ℕ → Option ℕ
@@ -43,36 +59,49 @@ module _ (mode : Mode) (t : Table) (climbs : shape t ≡ false) (mark : ℕ → 
   ss = states (t .rows)
 
   abbrev c : ℕ → ℕ
-  c s = lowest-of mark (states (t .rows)) (mark s)
+  c s = head-of mark t s
 
   abbrev h : ℕ → ℕ
-  h s = highest-of mark 0 (states (t .rows)) (mark s)
+  h s = source-of mark t s
 
   abbrev hs : List ℕ
-  hs = heads mark (states (t .rows)) (states (t .rows))
+  hs = heads-of mark t
 
   -- ---- what marks say of the lowest and the highest state
 
-  pub low : (s : ℕ) → In s ss → Lowest mark ss (mark s) (c s)
-  low s i = lowest-state mark ss (states-ascend (t .rows)) s (mark s) i refl
+  pub head-lowest : (s : ℕ) → In s ss → Lowest mark ss (mark s) (c s)
+  head-lowest s i = lowest-state mark ss (states-ascend (t .rows)) s (mark s) i refl
 
-  pub high : (s : ℕ) → In s ss → Highest mark ss (mark s) (h s)
-  high s i = highest mark ss (states-ascend (t .rows)) 0 s (mark s) i refl
+  pub source-highest : (s : ℕ) → In s ss → Highest mark ss (mark s) (h s)
+  source-highest s i = highest mark ss (states-ascend (t .rows)) 0 s (mark s) i refl
 
-  pub c-head : (s : ℕ) → In s ss → In (c s) hs
-  c-head s i = heads-in mark ss ss (c s) (low s i .is-in) (ap (lowest-of mark ss) (low s i .marked))
+  pub head-is-head : (s : ℕ) → In s ss → In (c s) hs
+  head-is-head s i =
+      let l = head-lowest s i in
+      heads-in mark ss ss (c s) (l .is-in) (ap (lowest-of mark ss) (l .marked))
 
-  pub c-production : (s : ℕ) → In s ss → P (c s) ≡ P s
-  c-production s i = k .one (c s) s (low s i .is-in) i (low s i .marked) .production
+  -- state 0 is a head
+  zero-own : c 0 ≡ 0
+  zero-own = let l = head-lowest 0 (zero-state (t .rows)) in omega (arith, l .low 0 (zero-state (t .rows)) refl)
+
+  pub zero-head : In 0 hs
+  zero-head = heads-in mark ss ss 0 (zero-state (t .rows)) zero-own
+
+  -- and keeps its number
+  pub zero-place : place-of mark t 0 ≡ 0
+  zero-place = ap (place-among hs) zero-own ∙ place-zero hs
+
+  pub head-production : (s : ℕ) → In s ss → P (c s) ≡ P s
+  head-production s i = k .one (c s) s (head-lowest s i .is-in) i (head-lowest s i .marked) .production
 
   -- rows that count are by classes those of the highest state of the mark
-  pub high-rows : (s : ℕ) → In s ss → compared mode (P s) ≡ true → redirect c (R s) ≡ redirect c (R (h s))
-  high-rows s i e =
-      let alike = k .one s (h s) i (high s i .is-in) (sym (high s i .marked)) in
+  pub source-rows : (s : ℕ) → In s ss → compared mode (P s) ≡ true → redirect c (R s) ≡ redirect c (R (h s))
+  source-rows s i e =
+      let alike = k .one s (h s) i (source-highest s i .is-in) (sym (source-highest s i .marked)) in
       redirect-over mark c (R s) (R (h s)) (λ o p _ _ z. ap (lowest-of mark ss) z) (alike .rows e)
 
   -- the node of a head
-  pub head-node : ℕ → Node
+  unfoldable pub head-node : ℕ → Node
   head-node s = record { state = s; production = P s; rows = redirect c (R (h s)) }
 
   -- ---- the nodes that merging leaves are those of the heads
@@ -85,7 +114,8 @@ module _ (mode : Mode) (t : Table) (climbs : shape t ≡ false) (mark : ℕ → 
       go (eqb (c s) s) (from-nodes xs (λ x i. sub x (there i)) (λ x i. all x (there i)))
     where
       rows : redirect c (R s) ≡ redirect c (R (h s))
-      rows = high-rows s (sub s here) (all s here)
+      rows = source-rows s (sub s here) (all s here)
+
       go : (b : Bool) → quotient c (map (node-at t) xs) ≡ map head-node (heads mark ss xs) →
           cond b (lead c (node-at t s) ∷ quotient c (map (node-at t) xs)) (quotient c (map (node-at t) xs))
           ≡ map head-node (cond b (s ∷ heads mark ss xs) (heads mark ss xs))
@@ -104,8 +134,10 @@ module _ (mode : Mode) (t : Table) (climbs : shape t ≡ false) (mark : ℕ → 
       where
         rest : List Node
         rest = gather (nodes t) (map (node-at t) xs)
+
         by : (a b : ℕ) → mark a ≡ mark b → c a ≡ c b
         by a b e = ap (lowest-of mark ss) e
+
         go : (o : Option ℕ) → P s ≡ o → quotient c rest ≡ map head-node (heads mark ss xs) →
             quotient c (put (nodes t) (node-at t s) o rest)
             ≡ map head-node (cond (eqb (c s) s) (s ∷ heads mark ss xs) (heads mark ss xs))
@@ -113,9 +145,12 @@ module _ (mode : Mode) (t : Table) (climbs : shape t ≡ false) (mark : ℕ → 
           where
             counts : compared mode (P s) ≡ true
             counts = rw (is, e)
+
             rows : redirect c (redirect (becomes (nodes t)) (R s)) ≡ redirect c (R (h s))
-            rows = redirect-becomes t climbs mark k′ c by s ∙ high-rows s (sub s here) counts
-            far : (b : Bool) → cond b (lead c (lead (becomes (nodes t)) (node-at t s)) ∷ quotient c rest) (quotient c rest)
+            rows = redirect-becomes t climbs mark k′ c by s ∙ source-rows s (sub s here) counts
+
+            far : (b : Bool) →
+                cond b (lead c (lead (becomes (nodes t)) (node-at t s)) ∷ quotient c rest) (quotient c rest)
                 ≡ map head-node (cond b (s ∷ heads mark ss xs) (heads mark ss xs))
             far true = λ i. record { state = s; production = P s; rows = rows i } ∷ ih i
             far false = ih
@@ -123,12 +158,15 @@ module _ (mode : Mode) (t : Table) (climbs : shape t ≡ false) (mark : ℕ → 
           where
             own : some q ≡ P s
             own = sym e
+
             low-q : lowest q (nodes t) ≡ c s
             low-q = lowest-node t climbs mark k′ s q (sub s here) e
+
             rows : redirect c (redirect (becomes (nodes t)) (highest-rows q [] (nodes t))) ≡ redirect c (R (h s))
             rows = ap (λ (r : List (ℕ × ℕ)). redirect c (redirect (becomes (nodes t)) r))
-                  (highest-node t climbs mark k′ s q (sub s here) e)
+                (highest-node t climbs mark k′ s q (sub s here) e)
                 ∙ redirect-becomes t climbs mark k′ c by (h s)
+
             far : Test (c s) s (eqb (c s) s) → quotient c (put (nodes t) (node-at t s) (some q) rest)
                 ≡ map head-node (cond (eqb (c s) s) (s ∷ heads mark ss xs) (heads mark ss xs))
             far (same f g) = rw (low-q, g, g) (λ i. record { state = s; production = own i; rows = rows i } ∷ ih i)
@@ -146,8 +184,8 @@ module _ (mode : Mode) (t : Table) (climbs : shape t ≡ false) (mark : ℕ → 
   merged-nodes =
       let up = nodes-climb t climbs in
       by-marks-among (gathered mode (nodes t)) (mode-rank (nodes t) up mode) (gathered-grounded (nodes t) up mode) mark
-        (node-marks t climbs mark mode k) ss (states-ascend (t .rows)) (node-state t climbs mark mode k)
-        (lowest-stays t climbs mark mode k) (length (nodes t)) (gathered-le (nodes t) up mode)
+      (node-marks t climbs mark mode k) ss (states-ascend (t .rows)) (node-state t climbs mark mode k)
+      (lowest-stays t climbs mark mode k) (length (nodes t)) (gathered-le (nodes t) up mode)
       ∙ heads-nodes
 
   -- ---- their rows
@@ -164,14 +202,15 @@ module _ (mode : Mode) (t : Table) (climbs : shape t ≡ false) (mark : ℕ → 
       (λ m i. let (y, j, e) = map-in head-node xs m i in subst (λ (z : Node). x < z .state) (sym e) (l y j))
       (heads-rise xs a)
 
-  pub hs-ascend : Ascending hs
-  hs-ascend = heads-ascend mark ss ss (states-ascend (t .rows))
+  pub heads-ascending : Ascending hs
+  heads-ascending = heads-ascend mark ss ss (states-ascend (t .rows))
 
   production-heads : (s : ℕ) → In s ss → node-production (map head-node hs) (c s) ≡ P s
   unfolding head-node
   production-heads s i =
-      production-at (map head-node hs) (heads-rise hs hs-ascend) (head-node (c s)) (in-map head-node hs (c s) (c-head s i))
-      ∙ c-production s i
+      production-at (map head-node hs) (heads-rise hs heads-ascending) (head-node (c s))
+      (in-map head-node hs (c s) (head-is-head s i))
+      ∙ head-production s i
 
   abbrev node-row : ℕ → ℕ × ℕ → Row
   node-row s r = record {

@@ -1,9 +1,9 @@
 -- A table's states rise, and are 0 and every to. Assumes nothing.
-use mathlib.Core.Path.{_≡_, refl, sym, _∙_, ap, subst}
+use mathlib.Core.Path.{_≡_, sym, ap, subst}
 use mathlib.Core.Logic.{⊎-elim, _⊎_, inl, inr}
 use mathlib.Core.Bool.{Bool, true, false, cond}
 use mathlib.Core.List.{List, [], _∷_, List·Memᴰ·head}
-use Prim.Native.Nat.{ℕ, suc, _≤_, _<_}
+use Prim.Native.Nat.{ℕ, suc, _≤_}
 use native.Mathlib.Omega.{arith}
 use lib.ListN.{length}
 use lib.Dec.{eqb, ltb}
@@ -24,6 +24,7 @@ in-with x (y ∷ ys) z i = go (ltb x y) (eqb x y) i (in-with x ys z)
     late : (z ≡ x) ⊎ In z ys → (z ≡ x) ⊎ In z (y ∷ ys)
     late (inl e) = inl e
     late (inr e) = inr (there e)
+
     go : (b c : Bool) → In z (put x y ys b c) → (In z (with-number x ys) → (z ≡ x) ⊎ In z ys) →
         (z ≡ x) ⊎ In z (y ∷ ys)
     go true c j ih = where-in j
@@ -103,6 +104,10 @@ in-states (x ∷ rs) s i = ⊎-elim
     (λ j. ⊎-elim (λ e. inl e) (λ k. inr (k .0, there (k .1), k .2)) (in-states rs s j))
     (in-with (x .to) (states rs) s i)
 
+-- and no other number
+pub no-state : (rs : List Row) (s : ℕ) → (s ≡ 0 → ⊥) → ((r : Row) → In r rs → r .to ≡ s → ⊥) → In s (states rs) → ⊥
+no-state rs s off none-of i = ⊎-elim (λ e. off e) (λ w. none-of (w .0) (w .1) (w .2)) (in-states rs s i)
+
 pub states-length : (rs : List Row) → length (states rs) ≤ suc (length rs)
 unfolding states
 states-length [] = omega arith
@@ -119,8 +124,10 @@ rows-of-in (r ∷ rs) s o i = go (test (r .from) s) i (rows-of-in rs s o)
   where
     Found : List Row → Type 0
     Found xs = (x : Row) × In x xs × (x .from ≡ s) × (o ≡ (x .terminal, x .to))
+
     later : Found rs → Found (r ∷ rs)
     later k = (k .0, there (k .1), k .2, k .3)
+
     go : Test (r .from) s (eqb (r .from) s) →
         In o (cond (eqb (r .from) s) ((r .terminal, r .to) ∷ rows-of rs s) (rows-of rs s)) →
         (In o (rows-of rs s) → Found rs) → Found (r ∷ rs)
@@ -134,8 +141,10 @@ in-rows-of (x ∷ rs) r i = go (test (x .from) (r .from)) (where-in i) (in-rows-
   where
     o : ℕ × ℕ
     o = (r .terminal, r .to)
+
     s : ℕ
     s = r .from
+
     go : Test (x .from) s (eqb (x .from) s) → (r ≡ x) ⊎ In r rs → (In r rs → In o (rows-of rs s)) →
         In o (cond (eqb (x .from) s) ((x .terminal, x .to) ∷ rows-of rs s) (rows-of rs s))
     go (same h e) (inl j) ih =

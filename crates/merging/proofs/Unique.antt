@@ -29,7 +29,7 @@ together ns d kd red n m i j ep er =
     let lb = kd .like m b j ib (sym (rb ∙ eb)) in
     let eq = eq-equal (lead d a) (lead d b) (sym (la .0) ∙ ep ∙ lb .0) (sym (la .1) ∙ er ∙ lb .1) in
     let z : lead d a ≡ lead d b =
-      red (lead d a) (lead d b) (quotient-in d ns a ia ra) (quotient-in d ns b ib rb) eq in
+    red (lead d a) (lead d b) (quotient-in d ns a ia ra) (quotient-in d ns b ib rb) eq in
     sym ea ∙ ap (λ (x : Node). x .state) z ∙ eb
 
 module _ (ns : List Node) (rank : ℕ → ℕ) (g : Grounded ns rank) where
@@ -41,10 +41,10 @@ module _ (ns : List Node) (rank : ℕ → ℕ) (g : Grounded ns rank) where
     finer (suc k) n m i j l e =
         let h = kc .like n m i j e in
         let rows = redirect-over c d (n .rows) (m .rows) (λ x y p q t.
-          let (n′, i′, e₁) = g .closed n i x p in
-          let (m′, j′, e₂) = g .closed m j y q in
-          let less : rank (n′ .state) < k = omega (arith, g .falls n i x p, ap rank e₁) in
-          ap d (sym e₁) ∙ finer k n′ m′ i′ j′ less (ap c e₁ ∙ t ∙ ap c (sym e₂)) ∙ ap d e₂) (h .1) in
+        let (n′, i′, e₁) = g .closed n i x p in
+        let (m′, j′, e₂) = g .closed m j y q in
+        let less : rank (n′ .state) < k = omega (arith, g .falls n i x p, ap rank e₁) in
+        ap d (sym e₁) ∙ finer k n′ m′ i′ j′ less (ap c e₁ ∙ t ∙ ap c (sym e₂)) ∙ ap d e₂) (h .1) in
         together ns d kd red n m i j (h .0) rows
 
     -- so d's lowest is no higher than c's
@@ -52,7 +52,7 @@ module _ (ns : List Node) (rank : ℕ → ℕ) (g : Grounded ns rank) where
     no-higher n i =
         let (m, j, e) = kc .home n i in
         let z : d (n .state) ≡ d (m .state) =
-          finer (suc (rank (n .state))) n m i j (omega arith) (sym (ap c e ∙ kc .idem n i)) in
+        finer (suc (rank (n .state))) n m i j (omega arith) (sym (ap c e ∙ kc .idem n i)) in
         omega (arith, kd .low m j, z, e)
 
   pub one-division : (c d : ℕ → ℕ) → Class ns c → Class ns d → Reduced (quotient c ns) → Reduced (quotient d ns) →
@@ -65,7 +65,9 @@ module _ (ns : List Node) (rank : ℕ → ℕ) (g : Grounded ns rank) where
   same-quotient c d h [] sub = refl
   same-quotient c d h (x ∷ xs) sub =
       let i = sub x here in
-      let rows = same-redirect c d (x .rows) (λ o k. let (m, l, f) = g .closed x i o k in ap c (sym f) ∙ h m l ∙ ap d f) in
+      let rows = same-redirect c d (x .rows) (λ o k.
+      let (m, l, f) = g .closed x i o k in
+      ap c (sym f) ∙ h m l ∙ ap d f) in
       let e : lead c x ≡ lead d x = λ j. record { state = x .state; production = x .production; rows = rows j } in
       let more = same-quotient c d h xs (λ y k. sub y (there k)) in
       λ j. cond (eqb (h x i j) (x .state)) (e j ∷ more j) (more j)

@@ -3,7 +3,7 @@
 use mathlib.Core.Path.{_≡_, refl, sym, _∙_, ap, ap₂, subst}
 use mathlib.Core.Logic.{⊎-elim, _⊎_, inl, inr}
 use mathlib.Core.Bool.{Bool, true, false, cond}
-use mathlib.Core.Option.{Option, none, some}
+use mathlib.Core.Option.{Option, some}
 use mathlib.Core.List.{List, [], _∷_, _++_, map, append-nil}
 use Prim.Native.Nat.{ℕ, _<_}
 use native.Mathlib.Omega.{arith}
@@ -12,19 +12,31 @@ use lib.Dec.{eqb}
 use borrow.Author.Tests.{eq-eqb, ne-eqb}
 use Rattle.laws.proofs.Members.{In, here, there, nowhere, where-in, in-map}
 use Rattle.paper.specs.declared.Mode.{Mode}
-use Rattle.paper.specs.declared.Mode.the-variants.{Archive, Intake}
+use Rattle.paper.specs.declared.Mode.the-variants.{Intake}
 use Rattle.paper.specs.Rows.{Row, Table, states}
 use Rattle.paper.specs.Checks.{shape, loose}
 use Rattle.paper.specs.Shrink.{production-of, rows-of, redirect}
-use Rattle.merging.specs.Numbers.{Ascending, asc-nil, asc-cons}
-use Rattle.merging.specs.Marks.{head-of, source-of, heads-of, place-of, lowest-of, highest-of, place-among, marked-row,
-  marked-rows, compared, Alike, Marks}
+use Rattle.merging.specs.Numbers.{Ascending, asc-cons}
+use Rattle.merging.specs.Marks.{
+  head-of,
+  source-of,
+  heads-of,
+  place-of,
+  lowest-of,
+  highest-of,
+  place-among,
+  marked-row,
+  marked-rows,
+  compared,
+  Marks,
+}
 use Rattle.merging.proofs.Redirect.{redirect-over, redirect-in}
-use Rattle.merging.proofs.Ends.{in-heads, heads-in}
+use Rattle.merging.proofs.Ends.{in-heads}
 use Rattle.merging.proofs.States.{zero-state, to-state, in-states, in-rows-of, rows-of-state}
 use Rattle.merging.proofs.Ruled.{production-cases, zero-production, from-state}
 use Rattle.merging.proofs.Places.{place-inj, place-zero, place-onto}
-use Rattle.merging.proofs.Shrunk.{low, high, c-head, c-production, high-rows, hs-ascend}
+use Rattle.merging.proofs.Shrunk.{zero-head, head-lowest, head-is-head, head-production}
+use Rattle.merging.proofs.Shrunk.{source-highest, source-rows, heads-ascending}
 use Rattle.merging.proofs.Output.{in-marked, marked-in}
 
 rows-append : (xs ys : List Row) (s : ℕ) → rows-of (xs ++ ys) s ≡ rows-of xs s ++ rows-of ys s
@@ -34,8 +46,10 @@ rows-append (x ∷ xs) ys s = go (eqb (x .from) s) (rows-append xs ys s)
   where
     o : ℕ × ℕ
     o = (x .terminal, x .to)
+
     go : (b : Bool) → rows-of (xs ++ ys) s ≡ rows-of xs s ++ rows-of ys s →
-        cond b (o ∷ rows-of (xs ++ ys) s) (rows-of (xs ++ ys) s) ≡ cond b (o ∷ rows-of xs s) (rows-of xs s) ++ rows-of ys s
+        cond b (o ∷ rows-of (xs ++ ys) s) (rows-of (xs ++ ys) s)
+        ≡ cond b (o ∷ rows-of xs s) (rows-of xs s) ++ rows-of ys s
     go true ih = ap (λ (l : List (ℕ × ℕ)). o ∷ l) ih
     go false ih = ih
 
@@ -67,8 +81,8 @@ module _ (mark : ℕ → ℕ) (t : Table) (hs : List ℕ) where
   rows-off-all (s ∷ xs) x off =
       rows-append (map (marked-row mark t hs s) (rows-of (t .rows) (source-of mark t s))) (marked-rows mark t hs xs) x
       ∙ ap₂ (λ (a b : List (ℕ × ℕ)). a ++ b)
-        (rows-off s x (rows-of (t .rows) (source-of mark t s)) (off s here))
-        (rows-off-all xs x (λ y i. off y (there i)))
+      (rows-off s x (rows-of (t .rows) (source-of mark t s)) (off s here))
+      (rows-off-all xs x (λ y i. off y (there i)))
 
   rows-marked : (xs : List ℕ) → Ascending xs → ((x : ℕ) → In x xs → In x hs) → (s : ℕ) → In s xs →
       rows-of (marked-rows mark t hs xs) (place-among hs s)
@@ -80,29 +94,33 @@ module _ (mark : ℕ → ℕ) (t : Table) (hs : List ℕ) where
     where
       own : List Row
       own = map (marked-row mark t hs x) (rows-of (t .rows) (source-of mark t x))
+
       rest : List Row
       rest = marked-rows mark t hs xs
+
       off : (y : ℕ) → In y xs → place-among hs y ≡ place-among hs x → ⊥
       off y j e =
           let less : x < y = l y j in
           omega (arith, less, place-inj hs y x (sub y (there j)) (sub x here) e)
+
       Has : ℕ → Type 0
       Has y = rows-of (own ++ rest) (place-among hs y)
           ≡ redirect to-place (rows-of (t .rows) (source-of mark t y))
+
       go : (s ≡ x) ⊎ In s xs →
           (In s xs → rows-of rest (place-among hs s) ≡ redirect to-place (rows-of (t .rows) (source-of mark t s))) →
           Has s
       go (inl e) ih = subst Has (sym e)
           (rows-append own rest (place-among hs x)
           ∙ ap₂ (λ (a b : List (ℕ × ℕ)). a ++ b)
-            (rows-here x (rows-of (t .rows) (source-of mark t x)))
-            (rows-off-all xs (place-among hs x) off)
+          (rows-here x (rows-of (t .rows) (source-of mark t x)))
+          (rows-off-all xs (place-among hs x) off)
           ∙ append-nil _)
       go (inr j) ih =
           rows-append own rest (place-among hs s)
           ∙ ap₂ (λ (a b : List (ℕ × ℕ)). a ++ b)
-            (rows-off x (place-among hs s) (rows-of (t .rows) (source-of mark t x)) (λ e. off s j (sym e)))
-            (ih j)
+          (rows-off x (place-among hs s) (rows-of (t .rows) (source-of mark t x)) (λ e. off s j (sym e)))
+          (ih j)
 
 module _ (mode : Mode) (t : Table) (climbs : shape t ≡ false) (mark : ℕ → ℕ) (k : Marks mode t mark) where
   abbrev P : ℕ → Option ℕ
@@ -127,38 +145,32 @@ module _ (mode : Mode) (t : Table) (climbs : shape t ≡ false) (mark : ℕ → 
   head-itself : (x : ℕ) → In x hs → head-of mark t x ≡ x
   head-itself x i = in-heads mark ss ss x i .1
 
-  pub zero-head : In 0 hs
-  zero-head =
-      let l = low mode t climbs mark k 0 (zero-state (t .rows)) in
-      let z : head-of mark t 0 ≡ 0 = omega (arith, l .low 0 (zero-state (t .rows)) refl) in
-      heads-in mark ss ss 0 (zero-state (t .rows)) z
-
   -- a state that places tell apart no further than marks do
   same-mark : (a b : ℕ) → In a ss → In b ss → place-of mark t a ≡ place-of mark t b → mark a ≡ mark b
   same-mark a b i j e =
-      let c-a = c-head mode t climbs mark k a i in
-      let c-b = c-head mode t climbs mark k b j in
+      let c-a = head-is-head mode t climbs mark k a i in
+      let c-b = head-is-head mode t climbs mark k b j in
       let same : head-of mark t a ≡ head-of mark t b = place-inj hs (head-of mark t a) (head-of mark t b) c-a c-b e in
-      sym (low mode t climbs mark k a i .marked) ∙ ap mark same ∙ low mode t climbs mark k b j .marked
+      sym (head-lowest mode t climbs mark k a i .marked) ∙ ap mark same ∙ head-lowest mode t climbs mark k b j .marked
 
   -- heads with one production and, by places, one set of rows are one
   pub heads-unlike : (x y : ℕ) → In x hs → In y hs → P x ≡ P y →
       rows-of us (place-among hs x) ≡ rows-of us (place-among hs y) → x ≡ y
   heads-unlike x y i j e f =
-      let high-x = high mode t climbs mark k x (head-state x i) in
-      let high-y = high mode t climbs mark k y (head-state y j) in
-      let own-x = rows-marked mark t hs hs (hs-ascend mode t climbs mark k) (λ z l. l) x i in
-      let own-y = rows-marked mark t hs hs (hs-ascend mode t climbs mark k) (λ z l. l) y j in
+      let high-x = source-highest mode t climbs mark k x (head-state x i) in
+      let high-y = source-highest mode t climbs mark k y (head-state y j) in
+      let own-x = rows-marked mark t hs hs (heads-ascending mode t climbs mark k) (λ z l. l) x i in
+      let own-y = rows-marked mark t hs hs (heads-ascending mode t climbs mark k) (λ z l. l) y j in
       let rows : redirect mark (R (source-of mark t x)) ≡ redirect mark (R (source-of mark t y)) =
-        redirect-over (place-of mark t) mark (R (source-of mark t x)) (R (source-of mark t y))
-          (λ o p l m z. same-mark (o .1) (p .1) (rows-of-state (t .rows) (source-of mark t x) o l)
-            (rows-of-state (t .rows) (source-of mark t y) p m) z)
-          (sym own-x ∙ f ∙ own-y) in
+      redirect-over (place-of mark t) mark (R (source-of mark t x)) (R (source-of mark t y))
+      (λ o p l m z. same-mark (o .1) (p .1) (rows-of-state (t .rows) (source-of mark t x) o l)
+      (rows-of-state (t .rows) (source-of mark t y) p m) z)
+      (sym own-x ∙ f ∙ own-y) in
       let p-x = k .one (source-of mark t x) x (high-x .is-in) (head-state x i) (high-x .marked) .production in
       let p-y = k .one (source-of mark t y) y (high-y .is-in) (head-state y j) (high-y .marked) .production in
       let marks : mark (source-of mark t x) ≡ mark (source-of mark t y) =
-        k .two (source-of mark t x) (source-of mark t y) (high-x .is-in) (high-y .is-in)
-          (record { production = p-x ∙ e ∙ sym p-y; rows = λ _. rows }) in
+      k .two (source-of mark t x) (source-of mark t y) (high-x .is-in) (high-y .is-in)
+      (record { production = p-x ∙ e ∙ sym p-y; rows = λ _. rows }) in
       let same : mark x ≡ mark y = sym (high-x .marked) ∙ marks ∙ high-y .marked in
       sym (head-itself x i) ∙ ap (lowest-of mark ss) same ∙ head-itself y j
 
@@ -170,8 +182,8 @@ module _ (mode : Mode) (t : Table) (climbs : shape t ≡ false) (mark : ℕ → 
       let state = rows-of-state (t .rows) (source-of mark t s) o m in
       let to : place-of mark t (o .1) ≡ place-among hs x = ap (λ (z : Row). z .to) (sym f) ∙ e in
       let same : head-of mark t (o .1) ≡ x =
-        place-inj hs (head-of mark t (o .1)) x (c-head mode t climbs mark k (o .1) state) i to in
-      ap (λ (z : Row). z .production) f ∙ sym (c-production mode t climbs mark k (o .1) state) ∙ ap P same
+      place-inj hs (head-of mark t (o .1)) x (head-is-head mode t climbs mark k (o .1) state) i to in
+      ap (λ (z : Row). z .production) f ∙ sym (head-production mode t climbs mark k (o .1) state) ∙ ap P same
 
   -- a state of the shrunk table is a head's place, and has the head's production
   pub record HeadOf (i : ℕ) : Type 0 where
@@ -188,21 +200,24 @@ module _ (mode : Mode) (t : Table) (climbs : shape t ≡ false) (mark : ℕ → 
           ((x ≡ 0) ⊎ ((r : Row) × In r us × (r .to ≡ i))) → production-of (t .prod0) us i ≡ P x
       by x a b c = ⊎-elim
           (λ z. ⊎-elim
-            (λ w. z .0 ∙ sym (zero-production t climbs) ∙ ap P (sym w))
-            (λ w. absurd (z .1 (w .0) (w .1) (w .2)))
-            c)
+          (λ w. z .0 ∙ sym (zero-production t climbs) ∙ ap P (sym w))
+          (λ w. absurd (z .1 (w .0) (w .1) (w .2)))
+          c)
           (λ z. let (r, l, e, f) = z in f ∙ into-head x a r l (e ∙ sym b))
           (production-cases (t .prod0) us i)
+
       at-zero : i ≡ 0 → HeadOf i
       at-zero e =
+          let zero = zero-head mode t climbs mark k in
           let place : place-among hs 0 ≡ i = place-zero hs ∙ sym e in
-          record { head = 0; is-head = zero-head; place = place; production = by 0 zero-head place (inl refl) }
+          record { head = 0; is-head = zero; place = place; production = by 0 zero place (inl refl) }
+
       at-row : (r : Row) × In r us × (r .to ≡ i) → HeadOf i
       at-row w =
           let (r, l, e) = w in
           let (s, _, o, m, f) = in-marked mark t hs hs r l in
           let state = rows-of-state (t .rows) (source-of mark t s) o m in
-          let x-head = c-head mode t climbs mark k (o .1) state in
+          let x-head = head-is-head mode t climbs mark k (o .1) state in
           let place : place-of mark t (o .1) ≡ i = ap (λ (z : Row). z .to) (sym f) ∙ e in
           record {
             head = head-of mark t (o .1);
@@ -219,46 +234,52 @@ module _ (mode : Mode) (t : Table) (climbs : shape t ≡ false) (mark : ℕ → 
       let y = head-at j b in
       let rows = ap (rows-of us) (x .place) ∙ f ∙ ap (rows-of us) (sym (y .place)) in
       let same : x .head ≡ y .head =
-        heads-unlike (x .head) (y .head) (x .is-head) (y .is-head) (sym (x .production) ∙ e ∙ y .production) rows in
+      heads-unlike (x .head) (y .head) (x .is-head) (y .is-head) (sym (x .production) ∙ e ∙ y .production) rows in
       sym (x .place) ∙ ap (place-among hs) same ∙ y .place
 
 -- ---- intake: each number below the state count is a state of the table
 
-module _ (t : Table) (climbs : shape t ≡ false) (rooted : loose t ≡ false) (mark : ℕ → ℕ) (k : Marks Intake t mark) where
+module _ (t : Table) (climbs : shape t ≡ false) (rooted : loose t ≡ false)
+    (mark : ℕ → ℕ) (k : Marks Intake t mark) where
   pub all-states : (i : ℕ) → i < length (heads-of mark t) →
       In i (states (marked-rows mark t (heads-of mark t) (heads-of mark t)))
   unfolding compared redirect marked-row
   all-states i l =
-      let (x, a, e) = place-onto (heads-of mark t) (hs-ascend Intake t climbs mark k) i l in
+      let (x, a, e) = place-onto (heads-of mark t) (heads-ascending Intake t climbs mark k) i l in
       let (b, own) = in-heads mark (states (t .rows)) (states (t .rows)) x a in
       ⊎-elim (at-zero x e) (at-row x e own) (in-states (t .rows) x b)
     where
       hs : List ℕ
       hs = heads-of mark t
+
       us : List Row
       us = marked-rows mark t (heads-of mark t) (heads-of mark t)
+
       at-zero : (x : ℕ) → place-among hs x ≡ i → x ≡ 0 → In i (states us)
       at-zero x e z =
           subst (λ (n : ℕ). In n (states us)) (sym (place-zero hs) ∙ ap (place-among hs) (sym z) ∙ e) (zero-state us)
+
       at-row : (x : ℕ) → place-among hs x ≡ i → head-of mark t x ≡ x → (r : Row) × In r (t .rows) × (r .to ≡ x) →
           In i (states us)
       at-row x e own w =
           let (r, j, f) = w in
           let from = from-state t rooted r j in
           let rows : redirect (head-of mark t) (rows-of (t .rows) (r .from))
-              ≡ redirect (head-of mark t) (rows-of (t .rows) (source-of mark t (r .from))) =
-            high-rows Intake t climbs mark k (r .from) from refl in
-          let led : In (r .terminal, head-of mark t (r .to)) (redirect (head-of mark t) (rows-of (t .rows) (r .from))) =
-            in-map (λ (q : ℕ × ℕ). (q .0, head-of mark t (q .1))) (rows-of (t .rows) (r .from)) (r .terminal, r .to)
-              (in-rows-of (t .rows) r j) in
+          ≡ redirect (head-of mark t) (rows-of (t .rows) (source-of mark t (r .from))) =
+          source-rows Intake t climbs mark k (r .from) from refl in
+          let led : In (r .terminal, head-of mark t (r .to))
+          (redirect (head-of mark t) (rows-of (t .rows) (r .from))) =
+          in-map (λ (q : ℕ × ℕ). (q .0, head-of mark t (q .1))) (rows-of (t .rows) (r .from)) (r .terminal, r .to)
+          (in-rows-of (t .rows) r j) in
           let led′ = subst (λ (os : List (ℕ × ℕ)). In (r .terminal, head-of mark t (r .to)) os) rows led in
           let (o, m, _, to) = redirect-in (head-of mark t) (rows-of (t .rows) (source-of mark t (r .from)))
-            (r .terminal, head-of mark t (r .to)) led′ in
-          let y-head = c-head Intake t climbs mark k (r .from) from in
+          (r .terminal, head-of mark t (r .to)) led′ in
+          let y-head = head-is-head Intake t climbs mark k (r .from) from in
           let same-source : source-of mark t (head-of mark t (r .from)) ≡ source-of mark t (r .from) =
-            ap (highest-of mark 0 (states (t .rows))) (low Intake t climbs mark k (r .from) from .marked) in
+          ap (highest-of mark 0 (states (t .rows))) (head-lowest Intake t climbs mark k (r .from) from .marked) in
           let own-row = subst (λ (z : ℕ). In o (rows-of (t .rows) z)) (sym same-source) m in
           let row = marked-in mark t hs hs (head-of mark t (r .from)) o y-head own-row in
           let place : place-among hs (head-of mark t (o .1)) ≡ i =
-            ap (place-among hs) (sym to ∙ ap (head-of mark t) f ∙ own) ∙ e in
-          subst (λ (n : ℕ). In n (states us)) place (to-state us (marked-row mark t hs (head-of mark t (r .from)) o) row)
+          ap (place-among hs) (sym to ∙ ap (head-of mark t) f ∙ own) ∙ e in
+          let new : Row = marked-row mark t hs (head-of mark t (r .from)) o in
+          subst (λ (n : ℕ). In n (states us)) place (to-state us new row)

@@ -4,10 +4,10 @@ use mathlib.Core.Path.{_≡_, refl, sym, ap, _∙_}
 use mathlib.Core.Bool.{Bool, true, false, cond, not, _||_}
 use mathlib.Core.Option.{Option}
 use mathlib.Core.List.{List, [], _∷_}
-use Prim.Native.Nat.{ℕ, zero, suc, _+_, _-_, _*_, _/_, _<_, _≤_}
+use Prim.Native.Nat.{ℕ, zero, suc, _+_, _*_, _/_, _<_}
 use native.Mathlib.Omega.{arith}
 use native.Mathlib.Numerals.{add-one}
-use borrow.Author.Tests.{eq-eqb, ne-eqb, eqb-true, eqb-false, not-true, not-false}
+use borrow.Author.Tests.{eq-eqb, ne-eqb}
 use lib.Dec.{eqb, eqb·suc-zero}
 use lib.ListN.{length, set}
 use lib.IntN.{ℤ}
@@ -51,7 +51,7 @@ pub mark-row : (ns : List ℤ) (into : List ℕ) (i k t : ℕ) → i + 1 ≡ k �
 mark-row ns into i k t e l h q b = holds-set t k h b
     (into-here ns i t l (sym q) ∙ sym (add-one i) ∙ e)
     (λ s d. into-other ns i s l (λ (x : row-at ns i .to ≡ s). d (q ∙ x))
-      ∙ ap (λ (m : ℕ). into-from m (rest ns m) s) e)
+    ∙ ap (λ (m : ℕ). into-from m (rest ns m) s) e)
 
 unmarked : (i s : ℕ) (rs : List Row) → eqb (into-from i rs s) 0 ≡ not (any (leads s) rs)
 unfolding into-from any
@@ -85,16 +85,22 @@ first-from : (ns : List ℤ) (s j d i : ℕ) → i + d ≡ length ns / 4 → int
 first-from ns s j zero i h e = absurd (omega (arith, into-end ns i s (omega arith)))
 first-from ns s j (suc d) i h e = by-equal (row-at ns i .to) s
     (λ (q : row-at ns i .to ≡ s).
-      let k : i ≡ j = omega (arith, into-here ns i s (omega arith) q) in
-      (omega arith, rw (← k) q, λ p. rw (← k) (production-cons p ns i s (omega arith)
-        ∙ ap (λ (b : Bool). cond b (row-at ns i .production) (production-of p (rest ns (i + 1)) s))
-          (eq-eqb (row-at ns i .to) s q))))
+    let k : i ≡ j = omega (arith, into-here ns i s (omega arith) q) in (
+      omega arith,
+      rw (← k) q,
+      λ p. rw (← k) (production-cons p ns i s (omega arith)
+          ∙ ap (λ (b : Bool). cond b (row-at ns i .production) (production-of p (rest ns (i + 1)) s))
+          (eq-eqb (row-at ns i .to) s q)),
+    ))
     (λ (q : row-at ns i .to ≡ s → ⊥).
-      let r = first-from ns s j d (i + 1) (omega arith) (sym (into-other ns i s (omega arith) q) ∙ e) in
-      (r .0, r .1, λ p. production-cons p ns i s (omega arith)
-        ∙ ap (λ (b : Bool). cond b (row-at ns i .production) (production-of p (rest ns (i + 1)) s))
+    let r = first-from ns s j d (i + 1) (omega arith) (sym (into-other ns i s (omega arith) q) ∙ e) in (
+      r .0,
+      r .1,
+      λ p. production-cons p ns i s (omega arith)
+          ∙ ap (λ (b : Bool). cond b (row-at ns i .production) (production-of p (rest ns (i + 1)) s))
           (ne-eqb (row-at ns i .to) s q)
-        ∙ r .2 p))
+          ∙ r .2 p,
+    ))
 
 -- the mark suc j is that of row j
 pub into-row : (ns : List ℤ) (s j : ℕ) → into-from 0 (rows-in ns) s ≡ suc j → First ns s j

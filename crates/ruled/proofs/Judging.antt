@@ -1,7 +1,7 @@
 -- A verdict of checks that follow others, and of a table whose prod0 was passed on.
 -- Assumes nothing.
 use mathlib.Core.Path.{_≡_, refl, sym, ap, _∙_}
-use mathlib.Core.Bool.{Bool, true, false, cond}
+use mathlib.Core.Bool.{Bool, cond}
 use mathlib.Core.List.{List, [], _∷_, _++_}
 use Prim.Native.Nat.{ℕ}
 use lib.IntN.{ℤ}
@@ -24,7 +24,7 @@ first-append [] ds r = refl
 first-append (c ∷ cs) ds r = ap (cond (c .0) (refuse (c .1) [])) (first-append cs ds r)
 
 module _ {cs : List (Bool × ℕ)} (ds : List (Bool × ℕ)) {v : Verdict} (j : Judges cs v) where
-  all-follow : first (cs ++ ds) (accept 0) ≡ follow v (first ds (accept 0))
+  all-follow : _≡_ {A = Ruling ℕ} (first (cs ++ ds) (accept 0)) (follow v (first ds (accept 0)))
   all-follow = first-append cs ds (accept 0) ∙ judged (first ds (accept 0)) j
 
   -- a refusal stands, whatever checks follow
@@ -33,15 +33,21 @@ module _ {cs : List (Bool × ℕ)} (ds : List (Bool × ℕ)) {v : Verdict} (j : 
 
   -- after a pass the checks that follow decide
   pub judges-on : {w : Verdict} → v ≡ Pass → Judges ds w → Judges (cs ++ ds) w
-  judges-on {w} e k = record { says = all-follow ∙ ap (λ (u : Verdict). follow u (first ds (accept 0))) e ∙ k .says }
+  judges-on {w} e k =
+      let f : Verdict → Ruling ℕ = λ u. follow u (first ds (accept 0)) in
+      record { says = all-follow ∙ ap f e ∙ k .says }
+
+pub as-pass : {cs : List (Bool × ℕ)} {v : Verdict} → v ≡ Pass → Judges cs v → Judges cs Pass
+as-pass {cs} e j = record { says = j .says ∙ ap (λ (u : Verdict). follow {A = ℕ} u (accept 0)) e }
 
 pub passed-on : (f : Table → List (Bool × ℕ)) (p : ℤ) (k : ℕ) (ns : List ℤ) (v : Verdict) → SFits w32 p
     → Judges (f (table (toZ w32 (ofZ w32 p)) k ns)) v → Judges (f (table p k ns)) v
 passed-on f p k ns v h j =
-    record { says = sym (ap (λ (z : ℤ). first (f (table z k ns)) (accept 0)) (toZ-ofZ {w = w32} h)) ∙ j .says }
+    record { says = sym (ap (λ (z : ℤ). first {A = ℕ} (f (table z k ns)) (accept 0)) (toZ-ofZ {w = w32} h)) ∙ j .says }
 
 -- the checks 4 to 7 look at the rows alone
-pub beyond-rows : (p : ℤ) (k : ℕ) (ns : List ℤ) (v : Verdict) → Judges (beyond (bare ns)) v → Judges (beyond (table p k ns)) v
+pub beyond-rows : (p : ℤ) (k : ℕ) (ns : List ℤ) (v : Verdict) → Judges (beyond (bare ns)) v
+    → Judges (beyond (table p k ns)) v
 unfolding shape loose split
 beyond-rows p k ns v j = record { says = j .says }
 

@@ -7,3 +7,6 @@ pub mod Once
 pub mod Seen
 pub mod Judging
 pub mod Passes
+pub mod Given
+pub mod Room
+pub mod Numbered

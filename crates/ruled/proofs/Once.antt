@@ -17,7 +17,7 @@ use Rattle.rows.proofs.Rest.{length-rows}
 use Rattle.rows.proofs.Counted.{Counts, count-yes, count-no, count-end}
 use Rattle.ruled.specs.Into.{Fitting, Holds}
 use Rattle.ruled.specs.Counts.{Counted}
-use Rattle.ruled.proofs.Arrays.{by-equal, bound, holds-set}
+use Rattle.ruled.proofs.Arrays.{bound, holds-set}
 
 pub into-counts : (s : ℕ) → Counts (λ r. eqb (r .to) s) (λ rs. rows-into rs s)
 unfolding rows-into
@@ -44,10 +44,10 @@ module _ (ns : List ℤ) where
       → Holds (rows-into (rest ns i)) (set counts t (getD counts t 0 + 1))
   count-row counts i k t e l h q b = holds-set t (getD counts t 0 + 1) h b
       (count-yes (into-counts t) ns i l (eq-eqb _ _ (sym q))
-        ∙ ap (λ (m : ℕ). suc (rows-into (rest ns m) t)) e
-        ∙ ap suc (sym (h .held t b)) ∙ sym (add-one (getD counts t 0)))
+      ∙ ap (λ (m : ℕ). suc (rows-into (rest ns m) t)) e
+      ∙ ap suc (sym (h .held t b)) ∙ sym (add-one (getD counts t 0)))
       (λ s d. count-no (into-counts s) ns i l (ne-eqb _ _ (λ (x : row-at ns i .to ≡ s). d (q ∙ x)))
-        ∙ ap (λ (m : ℕ). rows-into (rest ns m) s) e)
+      ∙ ap (λ (m : ℕ). rows-into (rest ns m) s) e)
 
   pub count-none : (s : ℕ) → rows-into (rest ns (length ns / 4)) s ≡ 0
   count-none s = count-end (into-counts s) ns (length ns / 4) (omega arith)
@@ -89,7 +89,7 @@ many ns b h =
     let n = length ns / 4 in
     let z : rows-into (rows-in ns) n ≡ 0 = into-past ns b n h n 0 (omega arith) in
     let e : each-once (rows-in ns) n ≡ false = once-top (rows-in ns) (n - 1) n false (omega arith)
-        (ne-eqb _ _ (λ (d : rows-into (rows-in ns) n ≡ 1). omega arith)) in
+    (ne-eqb _ _ (λ (d : rows-into (rows-in ns) n ≡ 1). omega arith)) in
     sym (ap not (ap (each-once (rows-in ns)) (length-rows ns) ∙ e))
 
 pub tree-as : (ns : List ℤ) (b : Bool) → b ≡ each-once (rows-in ns) (length ns / 4) → not b ≡ no-tree (bare ns)

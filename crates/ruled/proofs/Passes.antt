@@ -1,13 +1,13 @@
 -- What a table is that passed 2 to 6, or 2 to 7.
 -- Assumes nothing.
-use mathlib.Core.Path.{_≡_, refl, sym, ap, _∙_}
-use mathlib.Core.Bool.{Bool, true, false}
-use mathlib.Core.List.{List, [], _∷_}
+use mathlib.Core.Path.{_≡_}
+use mathlib.Core.Bool.{false}
+use mathlib.Core.List.{List}
 use Prim.Native.Nat.{ℕ, _≤_}
 use lib.ListN.{length}
 use lib.IntN.{ℤ}
 use Rattle.paper.specs.Rows.{Table, table}
-use Rattle.paper.specs.Checks.{range, order, shape, loose, split, no-tree, plain, ruled, tree}
+use Rattle.paper.specs.Checks.{range, order, shape, loose, split, no-tree, ruled, tree}
 use Rattle.rows.specs.Search.{Passed}
 use Rattle.rows.specs.Verdicts.{Judges}
 use Rattle.rows.specs.declared.verdict.Verdict.the-variants.{Pass}
@@ -49,9 +49,9 @@ tree-passed t j =
       tree = f .0;
     }
 
-module _ (p : ℤ) (k : ℕ) (ns : List ℤ) where
-  pub plain-fits : Passed ns → length ns ≤ 16384 → Fitting ns
-  plain-fits h l = record { fits = h .fits; few = l }
+-- its rows
+pub fitting : {ns : List ℤ} → Passed ns → length ns ≤ 16384 → Fitting ns
+fitting h l = record { fits = h .fits; few = l }
 
-  pub ruled-rows : Ruled (table p k ns) → Passed ns
-  ruled-rows r = passed p k ns (r .range) (r .order)
+pub ruled-rows : (p : ℤ) (k : ℕ) (ns : List ℤ) → Ruled (table p k ns) → Passed ns
+ruled-rows p k ns r = passed p k ns (r .range) (r .order)

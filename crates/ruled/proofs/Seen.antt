@@ -3,21 +3,20 @@
 use mathlib.Core.Path.{_≡_, refl, sym, ap, _∙_}
 use mathlib.Core.Bool.{Bool, true, false, cond}
 use mathlib.Core.List.{List, [], _∷_}
-use Prim.Native.Nat.{ℕ, zero, suc, _+_, _-_, _*_, _/_, _<_, _≤_}
+use Prim.Native.Nat.{ℕ, suc, _+_, _*_, _/_, _<_, _≤_}
 use native.Mathlib.Omega.{arith}
-use native.Mathlib.Numerals.{add-one}
-use borrow.Author.Tests.{eq-eqb, ne-eqb, lt-ltb, le-ltb, eqb-true, eqb-false}
-use lib.Dec.{eqb, ltb}
+use borrow.Author.Tests.{eq-eqb, ne-eqb, lt-ltb, le-ltb}
+use lib.Dec.{eqb}
 use lib.ListN.{length, getD, set}
 use lib.Seq.{set-getD}
 use lib.IntN.{ℤ}
-use Rattle.paper.specs.Rows.{Row, rows-in, with-number, states}
+use Rattle.paper.specs.Rows.{Row, with-number, states}
 use Rattle.rows.specs.Places.{row-at, rest}
-use Rattle.rows.proofs.Rest.{by-test, rest-cons, rest-end}
+use Rattle.rows.proofs.Rest.{rest-cons, rest-end}
 use Rattle.rows.proofs.Keys.{compared}
 use Rattle.ruled.specs.Into.{Holds, Clear}
 use Rattle.ruled.specs.Counts.{seen-in, Entered}
-use Rattle.ruled.proofs.Arrays.{by-equal, holds-set, holds-as}
+use Rattle.ruled.proofs.Arrays.{holds-set}
 
 -- Numbers that rise, from b on.
 abbrev pub Up : ℕ → List ℕ → Type 0
@@ -34,15 +33,15 @@ below-none b s (x ∷ xs) u h =
 
 -- the three places of x before, at and after the first number
 module _ (x y : ℕ) (ys : List ℕ) where
-  put-before : x < y → with-number x (y ∷ ys) ≡ x ∷ y ∷ ys
+  pub put-before : x < y → with-number x (y ∷ ys) ≡ x ∷ y ∷ ys
   unfolding with-number
   put-before h = simp (lt-ltb _ _ h)
 
-  put-at : x ≡ y → with-number x (y ∷ ys) ≡ y ∷ ys
+  pub put-at : x ≡ y → with-number x (y ∷ ys) ≡ y ∷ ys
   unfolding with-number
   put-at e = let h : y ≤ x = omega arith in simp (le-ltb _ _ h, eq-eqb _ _ e)
 
-  put-after : y < x → with-number x (y ∷ ys) ≡ y ∷ with-number x ys
+  pub put-after : y < x → with-number x (y ∷ ys) ≡ y ∷ with-number x ys
   unfolding with-number
   put-after h =
       let l : y ≤ x = omega arith in
@@ -64,12 +63,12 @@ with-length b x [] u = refl
 with-length b x (y ∷ ys) u = compared x y
     (λ (l : x < y). omega (arith, ap length (put-before x y ys l), below-none y x (y ∷ ys) (omega arith, u .1) l))
     (λ (e : x ≡ y).
-      let q : seen-in (y ∷ ys) x ≡ 1 = ap (λ (t : Bool). cond t 1 (seen-in ys x)) (eq-eqb y x (sym e)) in
-      omega (arith, ap length (put-at x y ys e), q))
+    let q : seen-in (y ∷ ys) x ≡ 1 = ap (λ (t : Bool). cond t 1 (seen-in ys x)) (eq-eqb y x (sym e)) in
+    omega (arith, ap length (put-at x y ys e), q))
     (λ (l : y < x).
-      let n : y ≡ x → ⊥ = λ e. omega arith in
-      let q : seen-in (y ∷ ys) x ≡ seen-in ys x = ap (λ (t : Bool). cond t 1 (seen-in ys x)) (ne-eqb y x n) in
-      omega (arith, ap length (put-after x y ys l), q, with-length (suc y) x ys (u .1)))
+    let n : y ≡ x → ⊥ = λ e. omega arith in
+    let q : seen-in (y ∷ ys) x ≡ seen-in ys x = ap (λ (t : Bool). cond t 1 (seen-in ys x)) (ne-eqb y x n) in
+    omega (arith, ap length (put-after x y ys l), q, with-length (suc y) x ys (u .1)))
 
 -- what is there once it is put in
 pub with-seen : (x s : ℕ) (ys : List ℕ) → seen-in (with-number x ys) s ≡ cond (eqb x s) 1 (seen-in ys s)
@@ -78,15 +77,16 @@ with-seen x s [] = refl
 with-seen x s (y ∷ ys) = compared x y
     (λ (l : x < y). ap (λ (zs : List ℕ). seen-in zs s) (put-before x y ys l))
     (λ (e : x ≡ y). ap (λ (zs : List ℕ). seen-in zs s) (put-at x y ys e)
-      ∙ twice (eqb y s) (seen-in ys s)
-      ∙ ap (λ (z : ℕ). cond (eqb z s) 1 (cond (eqb y s) 1 (seen-in ys s))) (sym e))
+    ∙ twice (eqb y s) (seen-in ys s)
+    ∙ ap (λ (z : ℕ). cond (eqb z s) 1 (cond (eqb y s) 1 (seen-in ys s))) (sym e))
     (λ (l : y < x). ap (λ (zs : List ℕ). seen-in zs s) (put-after x y ys l)
-      ∙ ap (λ (n : ℕ). cond (eqb y s) 1 n) (with-seen x s ys)
-      ∙ turn (eqb y s) (eqb x s) (seen-in ys s))
+    ∙ ap (λ (n : ℕ). cond (eqb y s) 1 n) (with-seen x s ys)
+    ∙ turn (eqb y s) (eqb x s) (seen-in ys s))
   where
     twice : (a : Bool) (n : ℕ) → cond a 1 n ≡ cond a 1 (cond a 1 n)
     twice true n = refl
     twice false n = refl
+
     turn : (a b : Bool) (n : ℕ) → cond a 1 (cond b 1 n) ≡ cond b 1 (cond a 1 n)
     turn true true n = refl
     turn true false n = refl
@@ -119,9 +119,9 @@ module _ (ns : List ℤ) (i : ℕ) (l : i * 4 + 3 < length ns) where
     see-row = rw (d .holds) (holds-set t 1 h b
         (here t ∙ ap (λ (p : Bool). cond p 1 (seen-in (states (rest ns (i + 1))) t)) (eq-eqb _ _ (sym q)))
         (λ s n. here s
-          ∙ ap (λ (p : Bool). cond p 1 (seen-in (states (rest ns (i + 1))) s))
-            (ne-eqb _ _ (λ (x : row-at ns i .to ≡ s). n (q ∙ x)))
-          ∙ ap (λ (m : ℕ). seen-in (states (rest ns m)) s) e))
+        ∙ ap (λ (p : Bool). cond p 1 (seen-in (states (rest ns (i + 1))) s))
+        (ne-eqb _ _ (λ (x : row-at ns i .to ≡ s). n (q ∙ x)))
+        ∙ ap (λ (m : ℕ). seen-in (states (rest ns m)) s) e))
       where
         here : (s : ℕ) → seen-in (states (rest ns i)) s
             ≡ cond (eqb (row-at ns i .to) s) 1 (seen-in (states (rest ns (i + 1))) s)
@@ -132,9 +132,9 @@ module _ (ns : List ℤ) (i : ℕ) (l : i * 4 + 3 < length ns) where
     see-count n c =
         let xs = states (rest ns (i + 1)) in
         let u : length (with-number (row-at ns i .to) xs) + seen-in xs (row-at ns i .to) ≡ suc (length xs) =
-            with-length 0 (row-at ns i .to) xs (states-up (rest ns (i + 1))) in
+        with-length 0 (row-at ns i .to) xs (states-up (rest ns (i + 1))) in
         let a : seen-in (states (rest ns k)) t ≡ seen-in xs (row-at ns i .to) =
-            rw (← e) (ap (seen-in xs) q) in
+        rw (← e) (ap (seen-in xs) q) in
         let z : n ≡ length xs = rw e c in
         omega (arith, u, a, z, h .held t b, d .fresh, ap length states-cons)
 

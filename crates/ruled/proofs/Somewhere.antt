@@ -1,11 +1,10 @@
 -- A test for any row, by the place of a row that passes it.
 -- Assumes nothing.
-use mathlib.Core.Path.{_≡_, refl, sym, ap, _∙_}
+use mathlib.Core.Path.{_≡_, refl, sym, _∙_}
 use mathlib.Core.Bool.{Bool, true, false, false≢true}
 use mathlib.Core.List.{List}
-use Prim.Native.Nat.{ℕ, zero, suc, _+_, _*_, _/_, _<_, _≤_}
+use Prim.Native.Nat.{ℕ, zero, suc, _+_, _*_, _/_, _<_}
 use native.Mathlib.Omega.{arith}
-use native.Mathlib.Numerals.{add-one}
 use lib.ListN.{length}
 use lib.IntN.{ℤ}
 use Rattle.paper.specs.Rows.{Row, rows-in}
@@ -48,3 +47,9 @@ module _ (f : Row → Bool) (ns : List ℤ) where
     where
       zero-add : 0 + r .at ≡ r .at
       zero-add = omega arith
+
+  -- no row passes a test that none passes
+  pub any-none : any f (rows-in ns) ≡ false → (i : ℕ) → i * 4 + 3 < length ns → f (row-at ns i) ≡ false
+  any-none e i h = by-test (f (row-at ns i))
+      (λ p. absurd (false≢true (sym e ∙ place-any (record { at = i; there = h; passes = p }))))
+      (λ p. p)

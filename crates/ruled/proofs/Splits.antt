@@ -6,7 +6,7 @@ use mathlib.Core.Option.{Option, none, some}
 use mathlib.Core.List.{List}
 use Prim.Native.Nat.{ℕ, zero, suc, _+_, _-_, _*_, _<_, _≤_}
 use native.Mathlib.Omega.{arith}
-use borrow.Author.Tests.{eq-eqb, eqb-true, eqb-false, not-true, not-false}
+use borrow.Author.Tests.{eq-eqb, eqb-true, not-true, not-false}
 use lib.Dec.{eqb, eqb·suc-suc, eqb·suc-zero, eqb·zero-suc}
 use lib.ListN.{length, getD}
 use lib.IntN.{ℤ}
@@ -18,7 +18,7 @@ use Rattle.rows.proofs.Rest.{both, by-test}
 use Rattle.ruled.specs.Into.{into-from, Fitting, Marked, leads, differs}
 use Rattle.ruled.proofs.Arrays.{bound}
 use Rattle.ruled.proofs.Firsts.{First, into-any, into-row}
-use Rattle.ruled.proofs.Somewhere.{same-test, Passing, any-place, place-any}
+use Rattle.ruled.proofs.Somewhere.{same-test, any-place, place-any}
 
 pub code-same : (p q : Option ℕ) → eqb (code p) (code q) ≡ same-production p q
 unfolding same-production
@@ -45,7 +45,7 @@ pub first-of : (ns : List ℤ) (i : ℕ) → i * 4 + 3 < length ns → (n : ℕ)
 first-of ns i h zero e =
     let s = row-at ns i .to in
     let a : any (leads s) (rows-in ns) ≡ true =
-        place-any (leads s) ns (record { at = i; there = h; passes = eq-eqb s s refl }) in
+    place-any (leads s) ns (record { at = i; there = h; passes = eq-eqb s s refl }) in
     let b : eqb (into-from 0 (rows-in ns) s) 0 ≡ true = eq-eqb (into-from 0 (rows-in ns) s) 0 (sym e) in
     absurd (false≢true (sym (ap not a) ∙ sym (into-any ns s) ∙ b))
 first-of ns i h (suc n) e =
@@ -79,13 +79,13 @@ module _ (ns : List ℤ) where
       by-test (differs (rows-in ns) r)
       (λ d. place-any (differs (rows-in ns)) ns (record { at = i; there = h; passes = d }))
       (λ d. by-test (differs (rows-in ns) x)
-        (λ f. place-any (differs (rows-in ns)) ns (record { at = j; there = k; passes = f }))
-        (λ f.
-          let q : x .production ≡ r .production =
-              agrees j f
-              ∙ ap (production-of none (rows-in ns)) (eqb-true (x .to) (r .to) (b .0))
-              ∙ sym (agrees i d) in
-          absurd (false≢true (sym (not-true _ (b .1)) ∙ path-same (x .production) (r .production) q))))
+      (λ f. place-any (differs (rows-in ns)) ns (record { at = j; there = k; passes = f }))
+      (λ f.
+      let q : x .production ≡ r .production =
+      agrees j f
+      ∙ ap (production-of none (rows-in ns)) (eqb-true (x .to) (r .to) (b .0))
+      ∙ sym (agrees i d) in
+      absurd (false≢true (sym (not-true _ (b .1)) ∙ path-same (x .production) (r .production) q))))
 
   -- a row that differs is apart from the first into its state
   first-apart : (i : ℕ) → i * 4 + 3 < length ns → differs (rows-in ns) (row-at ns i) ≡ true
@@ -96,24 +96,27 @@ module _ (ns : List ℤ) where
       let j = into-from 0 (rows-in ns) (r .to) - 1 in
       let x = row-at ns j in
       let t : eqb (x .to) (r .to) ≡ true = eq-eqb (x .to) (r .to) (f .leads) in
-      let d : same-production (x .production) (r .production) ≡ false = by-test (same-production (x .production) (r .production))
-          (λ s. absurd (false≢true (sym (not-true _ e)
-            ∙ path-same (r .production) (production-of none (rows-in ns) (r .to))
-              (sym (same-path (x .production) (r .production) s) ∙ sym (f .gives none)))))
-          (λ s. s) in
+      let b = same-production (x .production) (r .production) in
+      let d : b ≡ false = by-test b
+      (λ s. absurd (false≢true (sym (not-true _ e)
+      ∙ path-same (r .production) (production-of none (rows-in ns) (r .to))
+      (sym (same-path (x .production) (r .production) s) ∙ sym (f .gives none)))))
+      (λ s. s) in
       place-any (apart r) ns (record { at = j; there = f .there; passes = rw (t, d) })
 
   pub split-first : split (bare ns) ≡ any (differs (rows-in ns)) (rows-in ns)
   unfolding split
-  split-first = same-test (any (λ r. any (apart r) (rows-in ns)) (rows-in ns)) (any (differs (rows-in ns)) (rows-in ns))
+  split-first = same-test
+      (any (λ r. any (apart r) (rows-in ns)) (rows-in ns))
+      (any (differs (rows-in ns)) (rows-in ns))
       (λ e.
-        let r = any-place (λ r. any (apart r) (rows-in ns)) ns e in
-        let x = any-place (apart (row-at ns (r .at))) ns (r .passes) in
-        one-differs (r .at) (x .at) (r .there) (x .there) (x .passes))
+      let r = any-place (λ r. any (apart r) (rows-in ns)) ns e in
+      let x = any-place (apart (row-at ns (r .at))) ns (r .passes) in
+      one-differs (r .at) (x .at) (r .there) (x .there) (x .passes))
       (λ e.
-        let r = any-place (differs (rows-in ns)) ns e in
-        place-any (λ r. any (apart r) (rows-in ns)) ns
-        (record { at = r .at; there = r .there; passes = first-apart (r .at) (r .there) (r .passes) }))
+      let r = any-place (differs (rows-in ns)) ns e in
+      place-any (λ r. any (apart r) (rows-in ns)) ns
+      (record { at = r .at; there = r .there; passes = first-apart (r .at) (r .there) (r .passes) }))
 
 -- the test of row i, by the codes of its production and of that of the row that marks its state
 pub differs-mark : (ns : List ℤ) (i a b n : ℕ) → First ns (row-at ns i .to) n

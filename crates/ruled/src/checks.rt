@@ -1,7 +1,6 @@
 // The checks 5 and 6, by the first row into each state: each true when it refuses.
 use crate::into;
 use rows::numbers;
-
 ghost use mathlib.Core.Path.{_≡_};
 ghost use Prim.Native.Nat.{_+_, _*_, _<_};
 ghost use lib.ListN.{length};

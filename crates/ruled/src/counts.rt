@@ -1,6 +1,5 @@
 // Check 7 and the state count, each by one array over the states.
 use rows::numbers;
-
 ghost use mathlib.Core.Path.{_≡_};
 ghost use Prim.Native.Nat.{_+_, _*_, _/_, _<_, _≤_};
 ghost use lib.ListN.{length, getD};

@@ -1,6 +1,5 @@
 // The first row into each state.
 use rows::numbers;
-
 ghost use mathlib.Core.Path.{_≡_};
 ghost use Prim.Native.Nat.{_<_, _≤_};
 ghost use lib.ListN.{length};

@@ -1,4 +1,4 @@
-// Document 01, module 1: the checks 4 to 7 and the state count.
+// Document 01, module 1: the checks 5 to 7, the checks of a call in their order, and the state count.
 pub mod checks;
 pub mod counts;
 pub mod into;

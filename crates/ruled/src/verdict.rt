@@ -5,7 +5,6 @@ use crate::into;
 use paper::Refusal;
 use rows::verdict;
 use rows::verdict::Verdict;
-
 ghost use mathlib.Core.Path.{_≡_};
 ghost use Prim.Native.Nat.{_≤_};
 ghost use lib.ListN.{length};

@@ -9,3 +9,9 @@ pub mod Starts
 pub mod Forms
 pub mod Rowed
 pub mod Ended
+pub mod Formed
+pub mod Told
+pub mod Parted
+pub mod Small
+pub mod Tallied
+pub mod Climbs

@@ -17,6 +17,10 @@ pub uncode : (p : Option ℕ) → uncoded (code p) ≡ p
 uncode none = refl
 uncode (some q) = refl
 
+pub code-back : (c : ℕ) → c ≡ code (uncoded c)
+code-back zero = refl
+code-back (suc n) = refl
+
 -- the row whose numbers were read
 pub row-as : (r : Row) (f t g c : ℕ) → f ≡ r .from → t ≡ r .terminal → g ≡ r .to → c ≡ code (r .production) →
     row f t g c ≡ r

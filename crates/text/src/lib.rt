@@ -2,6 +2,7 @@
 use paper::{Refusal, Writing};
 use rows::{checks, numbers};
 
+mod passes;
 mod pieces;
 mod reading;
 mod writing;

@@ -3,10 +3,11 @@
 use mathlib.Core.Path.{_≡_, refl, sym, _∙_, ap}
 use mathlib.Core.Bool.{true}
 use mathlib.Core.Option.{Option, none, some}
-use mathlib.Core.List.{List, [], _∷_, List·Memᴰ, List·Memᴰ·head, List·Memᴰ·tail}
+use mathlib.Core.List.{List, [], _∷_}
 use Prim.Native.Nat.{ℕ, suc, max, _≤_}
 use native.Mathlib.Omega.{arith}
 use lib.ListN.{length}
+use Rattle.laws.proofs.Members.{In, here, there}
 use Rattle.paper.specs.Rows.{Row, Table, find}
 use Rattle.paper.specs.Checks.{production-fits}
 use Rattle.paper.specs.Build.{insert, give, Standing, enter, walk-in, add-string, add-strings, built}
@@ -29,12 +30,12 @@ unfolding built longest-string
 built-k q [] = refl
 built-k q (σ ∷ σs) = omega (arith, add-strings-k q (σ ∷ σs) nothing)
 
-pub longest-string-le : (σs : List (List ℕ)) → ((σ : List ℕ) → List·Memᴰ σ σs → length σ ≤ 16) →
+pub longest-string-le : (σs : List (List ℕ)) → ((σ : List ℕ) → In σ σs → length σ ≤ 16) →
     longest-string σs ≤ 16
 unfolding longest-string
 longest-string-le [] h = omega arith
 longest-string-le (σ ∷ σs) h =
-    omega (arith, h σ (List·Memᴰ·head refl), longest-string-le σs (λ τ i. h τ (List·Memᴰ·tail i)))
+    omega (arith, h σ here, longest-string-le σs (λ τ i. h τ (there i)))
 
 -- ---- numbers stay within bounds
 enter-fits : (rs : List Row) (s t : ℕ) (o : Option Row) → t ≤ 65535 → Rows-fit rs → Rows-fit (enter rs s t o .rows)
@@ -43,14 +44,14 @@ enter-fits rs s t none l f =
     fits-insert (record { from = s; terminal = t; to = suc (length rs); production = none }) rs (l, none-fits) f
 enter-fits rs s t (some r) l f = f
 
-walk-in-fits : (σ : List ℕ) (w : Standing) → ((t : ℕ) → List·Memᴰ t σ → t ≤ 65535) → Rows-fit (w .rows) →
+walk-in-fits : (σ : List ℕ) (w : Standing) → ((t : ℕ) → In t σ → t ≤ 65535) → Rows-fit (w .rows) →
     Rows-fit (walk-in w σ .rows)
 unfolding walk-in
 walk-in-fits [] w h f = f
 walk-in-fits (t ∷ σ) w h f =
     let o = find (w .rows) (w .state) t in
-    walk-in-fits σ (enter (w .rows) (w .state) t o) (λ u i. h u (List·Memᴰ·tail i))
-      (enter-fits (w .rows) (w .state) t o (h t (List·Memᴰ·head refl)) f)
+    walk-in-fits σ (enter (w .rows) (w .state) t o) (λ u i. h u (there i))
+      (enter-fits (w .rows) (w .state) t o (h t here) f)
 
 module _ (q : ℕ) (small : q ≤ 65535) where
   root-string : (t : Table) (σ : List ℕ) → production-fits (t .prod0) ≡ true →
@@ -58,19 +59,19 @@ module _ (q : ℕ) (small : q ≤ 65535) where
   unfolding add-string
   root-string t σ h = root-give _ (some q) _ (some-fits q small) h
 
-  rows-string : (t : Table) (σ : List ℕ) → ((u : ℕ) → List·Memᴰ u σ → u ≤ 65535) → Rows-fit (t .rows) →
+  rows-string : (t : Table) (σ : List ℕ) → ((u : ℕ) → In u σ → u ≤ 65535) → Rows-fit (t .rows) →
       Rows-fit (add-string q t σ .rows)
   unfolding add-string
   rows-string t σ h f =
       fits-give _ (some q) _ (some-fits q small) (walk-in-fits σ (record { rows = t .rows; state = 0 }) h f)
 
-  add-strings-fit : (σs : List (List ℕ)) (t : Table) → ((σ : List ℕ) → List·Memᴰ σ σs → (u : ℕ) → List·Memᴰ u σ → u ≤ 65535) →
+  add-strings-fit : (σs : List (List ℕ)) (t : Table) → ((σ : List ℕ) → In σ σs → (u : ℕ) → In u σ → u ≤ 65535) →
       production-fits (t .prod0) ≡ true → Rows-fit (t .rows) →
       (production-fits (add-strings q t σs .prod0) ≡ true) × Rows-fit (add-strings q t σs .rows)
   unfolding add-strings
   add-strings-fit [] t h p f = (p, f)
-  add-strings-fit (σ ∷ σs) t h p f = add-strings-fit σs (add-string q t σ) (λ τ i. h τ (List·Memᴰ·tail i))
-      (root-string t σ p) (rows-string t σ (h σ (List·Memᴰ·head refl)) f)
+  add-strings-fit (σ ∷ σs) t h p f = add-strings-fit σs (add-string q t σ) (λ τ i. h τ (there i))
+      (root-string t σ p) (rows-string t σ (h σ here) f)
 
   pub built-fits : (σs : List (List ℕ)) → Short σs → Fits (built q σs)
   unfolding built

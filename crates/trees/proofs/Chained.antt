@@ -3,12 +3,13 @@
 -- tree that says what the lists say. Assumes nothing.
 use mathlib.Core.Path.{_≡_, refl, sym, _∙_, ap, subst, fun-ext}
 use mathlib.Core.Option.{Option, none, some}
-use mathlib.Core.List.{List, [], _∷_, _++_, append-nil, List·Memᴰ, List·Memᴰ·head, List·Memᴰ·eq-of-singleton}
+use mathlib.Core.List.{List, [], _∷_, _++_, append-nil, List·Memᴰ·eq-of-singleton}
 use mathlib.Core.List.{Memᴰ·cast, Memᴰ·append-left, Memᴰ·append-right}
 use Prim.Native.Nat.{ℕ, suc, max, _≤_, _<_}
 use native.Mathlib.Omega.{arith}
 use lib.ListN.{length}
 use lib.Seq.{append-snoc}
+use Rattle.laws.proofs.Members.{In, here}
 use Rattle.paper.specs.declared.Mode.the-variants.{Intake}
 use Rattle.paper.specs.Rows.{Table}
 use Rattle.paper.specs.Answers.{Ruling, accept, refuse, then, Made}
@@ -30,7 +31,7 @@ use Rattle.trees.proofs.Built.{built-tree}
 use Rattle.trees.proofs.BuildSound.{built-k, built-fits, built-treed}
 use Rattle.trees.proofs.UniteSound.{Holds, holds, refused, united-views, united-fits}
 use Rattle.trees.proofs.Tells.{Tells, tells-built, tells-join, tells-says, stands-more}
-use Rattle.trees.proofs.Beginnings.{tells-size}
+use Rattle.trees.proofs.Beginnings.{tells-size, tells-count}
 use Rattle.trees.proofs.Calls.{counted, build-accepts, unite-accepts}
 
 longest-append : (xs ys : List Opening) → longest (xs ++ ys) ≡ max (longest xs) (longest ys)
@@ -71,10 +72,10 @@ union-part done l a b T p r u f = record {
   longest-k = u .longer ∙ omega (arith, longest-append done (l ∷ []), p .longest-k, r .longest-k);
 }
 
-module _ (all : List Opening) (bd : (l : Opening) → List·Memᴰ l all → Bounded l)
+module _ (all : List Opening) (bd : (l : Opening) → In l all → Bounded l)
     (bound : length (distinct (all-beginnings all)) ≤ 1024) where
   Sub : List Opening → Type 0
-  Sub ls = (l : Opening) → List·Memᴰ l ls → List·Memᴰ l all
+  Sub ls = (l : Opening) → In l ls → In l all
 
   size : (done : List Opening) → Sub done → (t : Table) → Treed t → Tells (view t) done →
       suc (length (t .rows)) ≤ 1024
@@ -87,45 +88,45 @@ module _ (all : List Opening) (bd : (l : Opening) → List·Memᴰ l all → Bou
     treed = p .treed;
   }
 
-  own : (l : Opening) → List·Memᴰ l all → Part (l ∷ []) (built (l .production) (l .strings))
+  own : (l : Opening) → In l all → Part (l ∷ []) (built (l .production) (l .strings))
   own l i = built-part (l .production) (l .strings) (bd l i)
 
-  own-sub : (l : Opening) → List·Memᴰ l all → Sub (l ∷ [])
+  own-sub : (l : Opening) → In l all → Sub (l ∷ [])
   unfolding Sub
   own-sub l i m j = Memᴰ·cast (List·Memᴰ·eq-of-singleton j) i
 
-  own-size : (l : Opening) → List·Memᴰ l all → suc (length (built (l .production) (l .strings) .rows)) ≤ 1024
+  own-size : (l : Opening) → In l all → suc (length (built (l .production) (l .strings) .rows)) ≤ 1024
   own-size l i = let p = own l i in size (l ∷ []) (own-sub l i) (built (l .production) (l .strings)) (p .treed) (p .tells)
 
   -- one list more, as `united` has it
   module _ (done rest : List Opening) (l : Opening) (t : Table) (e : all ≡ done ++ l ∷ rest) (p : Part done t) where
-    here : List·Memᴰ l all
-    here = subst (λ (z : List Opening). List·Memᴰ l z) (sym e) (Memᴰ·append-right done (List·Memᴰ·head refl))
+    this : In l all
+    this = subst (λ (z : List Opening). In l z) (sym e) (Memᴰ·append-right done here)
 
     before : Sub done
     unfolding Sub
-    before m i = subst (λ (z : List Opening). List·Memᴰ m z) (sym e) (Memᴰ·append-left (l ∷ rest) i)
+    before m i = subst (λ (z : List Opening). In m z) (sym e) (Memᴰ·append-left (l ∷ rest) i)
 
     both : Sub (done ++ (l ∷ []))
     unfolding Sub
-    both m i = subst (λ (z : List Opening). List·Memᴰ m z) (append-snoc done l rest ∙ sym e) (Memᴰ·append-left rest i)
+    both m i = subst (λ (z : List Opening). In m z) (append-snoc done l rest ∙ sym e) (Memᴰ·append-left rest i)
 
     one-more : (g : Ruling Made) → Unites Intake t (built (l .production) (l .strings)) g → Holds Fits g →
         ((u : Table) → Part (done ++ (l ∷ [])) u → Chained all (unite-rest (counted u) rest)) →
         Chained all (then g (λ c. unite-rest c rest))
     unfolding seen Sub
     one-more g (unions.joined {T} u s) (holds f h) ih =
-        ih T (union-part done l t (built (l .production) (l .strings)) T p (own l here) u f)
+        ih T (union-part done l t (built (l .production) (l .strings)) T p (own l this) u f)
     one-more g (unions.full {T} u big) h ih =
         let b : Table = built (l .production) (l .strings) in
         let tells : Tells (view T) (done ++ (l ∷ [])) =
               tells-same (view T) (λ σ. join Intake (view t σ) (view b σ)) (done ++ (l ∷ [])) (u .views)
-                (tells-join (view t) (view b) done (l ∷ []) (p .tells) (own l here .tells) (u .agree)) in
+                (tells-join (view t) (view b) done (l ∷ []) (p .tells) (own l this .tells) (u .agree)) in
         absurd (omega (arith, big, size (done ++ (l ∷ [])) both T (u .treed) tells))
     one-more g (unions.at-odds {p = x} {q = y} σ e₁ e₂ n) h ih = chains.clashed (record {
       string = σ;
       first = stands-more done all before σ x (p .tells .claim σ x e₁);
-      second = stands-more (l ∷ []) all (own-sub l here) σ y (own l here .tells .claim σ y e₂);
+      second = stands-more (l ∷ []) all (own-sub l this) σ y (own l this .tells .claim σ y e₂);
       differ = n;
     })
 
@@ -135,13 +136,13 @@ module _ (all : List Opening) (bd : (l : Opening) → List·Memᴰ l all → Bou
     unfolding unite-rest
     next-list ih =
         let b : Table = built (l .production) (l .strings) in
-        let r = own l here in
+        let r = own l this in
         let small-t = size done before t (p .treed) (p .tells) in
-        let small-b = own-size l here in
+        let small-b = own-size l this in
         let step : unite-made (counted t) (counted b) ≡ united Intake t b =
-              unite-accepts (counted t) (counted b) (sound done before t p) (sound (l ∷ []) (own-sub l here) b r)
+              unite-accepts (counted t) (counted b) (sound done before t p) (sound (l ∷ []) (own-sub l this) b r)
                 (omega arith) (omega arith) in
-        rw (build-accepts l (bd l here) small-b) (rw step (
+        rw (build-accepts l (bd l this) small-b) (rw step (
           one-more (united Intake t b) (united-views Intake t b (p .treed) (r .treed))
             (united-fits Intake t b (p .fits) (r .fits)) ih))
 
@@ -152,14 +153,15 @@ module _ (all : List Opening) (bd : (l : Opening) → List·Memᴰ l all → Bou
         let z : some (some x) ≡ some (some y) = sym (p .tells .stands σ x a) ∙ p .tells .stands σ y b in
         cc;
     sound = sound all (λ m i. i) t p;
-    states = refl;
+    counted = refl;
+    states = tells-count all t (passes-tree t (p .treed)) (p .tells);
     says = subst (λ (z : List Opening). Says t z) (sym e)
         (tells-says t l ls (bd l first .filled) (subst (Tells (view t)) e (p .tells)));
     longest = p .longest-k;
   }
     where
-      first : List·Memᴰ l all
-      first = subst (λ (z : List Opening). List·Memᴰ l z) (sym e) (List·Memᴰ·head refl)
+      first : In l all
+      first = subst (λ (z : List Opening). In l z) (sym e) here
 
   rest-good : (l : Opening) (ls : List Opening) → all ≡ l ∷ ls → (rest done : List Opening) (t : Table) →
       all ≡ done ++ rest → Part done t → Chained all (unite-rest (counted t) rest)
@@ -170,12 +172,12 @@ module _ (all : List Opening) (bd : (l : Opening) → List·Memᴰ l all → Bou
   rest-good l ls e (m ∷ rest) done t d p = next-list done rest m t d p
       (λ u p′. rest-good l ls e rest (done ++ (m ∷ [])) u (d ∙ sym (append-snoc done m rest)) p′)
 
-pub chain-good : (l : Opening) (ls : List Opening) → ((m : Opening) → List·Memᴰ m (l ∷ ls) → Bounded m) →
+pub chain-good : (l : Opening) (ls : List Opening) → ((m : Opening) → In m (l ∷ ls) → Bounded m) →
     length (distinct (all-beginnings (l ∷ ls))) ≤ 1024 → Chained (l ∷ ls) (chain l ls)
 unfolding chain
 chain-good l ls bd bound =
     let all : List Opening = l ∷ ls in
-    let i : List·Memᴰ l (l ∷ ls) = List·Memᴰ·head refl in
+    let i : In l (l ∷ ls) = here in
     rw (build-accepts l (bd l i) (own-size (l ∷ ls) bd bound l i))
       (rest-good (l ∷ ls) bd bound l ls refl ls (l ∷ []) (built (l .production) (l .strings)) refl
         (own (l ∷ ls) bd bound l i))

@@ -8,14 +8,16 @@ use native.Mathlib.Omega.{arith}
 use lib.ListN.{length}
 use lib.Dec.{eqb, leb}
 use borrow.Author.Tests.{eq-eqb, lt-leb, leb-false, not-false}
+use Rattle.laws.proofs.Members.{In}
 use Rattle.laws.proofs.Tests.{Test, same, apart, test, never}
 use Rattle.laws.proofs.Every.{both, any-true, any-false, any-in}
 use Rattle.paper.specs.Rows.{Row, Table, find}
 use Rattle.paper.specs.Checks.{any, rising, order, shape, loose, same-production, split}
 use Rattle.paper.specs.Checks.{rows-into, each-once, no-tree}
 use Rattle.trees.specs.Trees.{Treed}
-use Rattle.trees.proofs.Find.{In, find-in}
-use Rattle.trees.proofs.Rising.{Rising, rising-true, true-rising, in-find}
+use Rattle.trees.proofs.Find.{find-in}
+use Rattle.laws.proofs.RowsRise.{RowsRise, rise-rising, rising-rise}
+use Rattle.trees.proofs.Rising.{in-find}
 use Rattle.trees.proofs.Paths.{Branching}
 use Rattle.trees.proofs.Counted.{into-one, once-in, into-some, one-in, sum-once, sum-in}
 use Rattle.trees.proofs.Tree.{Tree, found, up, to-le, same-to, into}
@@ -66,7 +68,7 @@ module _ (t : Table) (tr : Tree (t .rows)) where
   pub tree-passes : Treed t
   unfolding order shape loose split no-tree
   tree-passes = record {
-    ordered = ap not (rising-true (t .rows) (tr .rising));
+    ordered = ap not (rise-rising (t .rows) (tr .rising));
     shaped = any-false (λ r. leb (r .to) (r .from)) (t .rows)
         (λ r i. lt-leb (r .to) (r .from) (up (t .rows) tr r i));
     held = any-false (λ r. not (eqb (r .from) 0) && not (any (λ x. eqb (x .to) (r .from)) (t .rows))) (t .rows) held;
@@ -80,9 +82,9 @@ module _ (t : Table) (tr : Tree (t .rows)) where
 
 -- ---- what passes is a tree
 module _ (t : Table) (h : Treed t) where
-  rises : Rising (t .rows)
+  rises : RowsRise (t .rows)
   unfolding order
-  rises = true-rising (t .rows) (not-false (rising (t .rows)) (h .ordered))
+  rises = rising-rise (t .rows) (not-false (rising (t .rows)) (h .ordered))
 
   one-into : (n : ℕ) → 0 < n → n ≤ length (t .rows) → rows-into (t .rows) n ≡ 1
   unfolding no-tree

@@ -2,37 +2,38 @@
 use mathlib.Core.Path.{_≡_, refl, sym, _∙_, ap}
 use mathlib.Core.Logic.{⊎-elim, _⊎_, inl, inr}
 use mathlib.Core.Bool.{Bool, true, false, cond, _&&_}
-use mathlib.Core.List.{List, [], _∷_, List·Memᴰ·head, List·Memᴰ·tail, List·Memᴰ·not-nil, List·Memᴰ·cases-cons}
+use mathlib.Core.List.{List, [], _∷_}
 use Prim.Native.Nat.{ℕ, zero, suc, _+_, _≤_, _<_}
 use native.Mathlib.Omega.{arith}
 use lib.ListN.{length}
 use lib.Dec.{eqb, leb}
 use borrow.Author.Tests.{eqb-true, leb-true, leb-false, ne-eqb}
+use Rattle.laws.proofs.Members.{In, here, there, nowhere, where-in}
 use Rattle.laws.proofs.Tests.{Test, same, apart, test}
 use Rattle.laws.proofs.Every.{first-of, second-of}
 use Rattle.paper.specs.Rows.{Row}
 use Rattle.paper.specs.Checks.{rows-into, each-once}
-use Rattle.trees.proofs.Find.{In}
-use Rattle.trees.proofs.Rising.{Before, Rising, rising-cons, not-before-itself}
+use Rattle.laws.proofs.RowsRise.{Before, RowsRise, rows-cons}
+use Rattle.trees.proofs.Rising.{not-before-itself}
 
 into-none : (n : ℕ) (rs : List Row) → ((x : Row) → In x rs → x .to ≡ n → ⊥) → rows-into rs n ≡ 0
 unfolding rows-into
 into-none n [] h = refl
 into-none n (r ∷ rs) h =
-    rw (ne-eqb (r .to) n (h r (List·Memᴰ·head refl))) (into-none n rs (λ x i. h x (List·Memᴰ·tail i)))
+    rw (ne-eqb (r .to) n (h r here)) (into-none n rs (λ x i. h x (there i)))
 
 -- rows rise, so a row stands once
-pub into-one : (n : ℕ) (rs : List Row) (r : Row) → Rising rs → In r rs → r .to ≡ n →
+pub into-one : (n : ℕ) (rs : List Row) (r : Row) → RowsRise rs → In r rs → r .to ≡ n →
     ((x : Row) → In x rs → x .to ≡ n → x ≡ r) → rows-into rs n ≡ 1
 unfolding rows-into
-into-one n [] r s i e h = absurd (List·Memᴰ·not-nil i)
-into-one n (y ∷ rs) r (rising-cons b s) i e h =
-    go (test (y .to) n) (List·Memᴰ·cases-cons i) (λ j. into-one n rs r s j e (λ x k. h x (List·Memᴰ·tail k)))
+into-one n [] r s i e h = absurd (nowhere i)
+into-one n (y ∷ rs) r (rows-cons b s) i e h =
+    go (test (y .to) n) (where-in i) (λ j. into-one n rs r s j e (λ x k. h x (there k)))
   where
     clear : (x : Row) → x ≡ y → Before y x → ⊥
     clear x z p = not-before-itself y x p (ap (λ (q : Row). q .from) z, ap (λ (q : Row). q .terminal) z)
     once : y .to ≡ n → (x : Row) → In x rs → x .to ≡ n → ⊥
-    once k x l m = clear x (h x (List·Memᴰ·tail l) m ∙ sym (h y (List·Memᴰ·head refl) k)) (b x l)
+    once k x l m = clear x (h x (there l) m ∙ sym (h y here k)) (b x l)
     go : Test (y .to) n (eqb (y .to) n) → (r ≡ y) ⊎ In r rs → (In r rs → rows-into rs n ≡ 1) →
         cond (eqb (y .to) n) (suc (rows-into rs n)) (rows-into rs n) ≡ 1
     go (same k t) j ih = rw t (ap suc (into-none n rs (once k)))
@@ -60,13 +61,13 @@ into-some n (r ∷ rs) h = go (test (r .to) n) h (into-some n rs)
   where
     go : Test (r .to) n (eqb (r .to) n) → 0 < cond (eqb (r .to) n) (suc (rows-into rs n)) (rows-into rs n) →
         (0 < rows-into rs n → (x : Row) × In x rs × (x .to ≡ n)) → (x : Row) × In x (r ∷ rs) × (x .to ≡ n)
-    go (same k _) l ih = (r, List·Memᴰ·head refl, k)
-    go (apart k e) l ih = let (x, i, j) = ih (rw e at l) in (x, List·Memᴰ·tail i, j)
+    go (same k _) l ih = (r, here, k)
+    go (apart k e) l ih = let (x, i, j) = ih (rw e at l) in (x, there i, j)
 
 into-there : (n : ℕ) (rs : List Row) (x : Row) → In x rs → x .to ≡ n → 0 < rows-into rs n
 unfolding rows-into
-into-there n [] x i e = absurd (List·Memᴰ·not-nil i)
-into-there n (r ∷ rs) x i e = go (test (r .to) n) (List·Memᴰ·cases-cons i) (λ j. into-there n rs x j e)
+into-there n [] x i e = absurd (nowhere i)
+into-there n (r ∷ rs) x i e = go (test (r .to) n) (where-in i) (λ j. into-there n rs x j e)
   where
     go : Test (r .to) n (eqb (r .to) n) → (x ≡ r) ⊎ In x rs → (In x rs → 0 < rows-into rs n) →
         0 < cond (eqb (r .to) n) (suc (rows-into rs n)) (rows-into rs n)
@@ -77,9 +78,9 @@ into-there n (r ∷ rs) x i e = go (test (r .to) n) (List·Memᴰ·cases-cons i)
 -- one row into n: any two are the same
 pub one-in : (n : ℕ) (rs : List Row) → rows-into rs n ≤ 1 → (x y : Row) → In x rs → In y rs → x .to ≡ n → y .to ≡ n → x ≡ y
 unfolding rows-into
-one-in n [] h x y i j e f = absurd (List·Memᴰ·not-nil i)
+one-in n [] h x y i j e f = absurd (nowhere i)
 one-in n (r ∷ rs) h x y i j e f =
-    go (test (r .to) n) h (List·Memᴰ·cases-cons i) (List·Memᴰ·cases-cons j) (one-in n rs)
+    go (test (r .to) n) h (where-in i) (where-in j) (one-in n rs)
   where
     to-of : (z : Row) → z ≡ r → z .to ≡ n → r .to ≡ n
     to-of z k l = ap (λ (q : Row). q .to) (sym k) ∙ l
@@ -136,11 +137,11 @@ sum-once rs (suc n) h =
 
 -- as many rows as states: no row leads elsewhere
 pub sum-in : (rs : List Row) (n : ℕ) → length rs ≤ sum-into rs n → (x : Row) → In x rs → (0 < x .to) × (x .to ≤ n)
-sum-in [] n h x i = absurd (List·Memᴰ·not-nil i)
+sum-in [] n h x i = absurd (nowhere i)
 sum-in (r ∷ rs) n h x i = ⊎-elim
     (λ k. let e : x .to ≡ r .to = ap (λ (q : Row). q .to) k in go e)
     (λ j. sum-in rs n (omega (arith, h, sum-le r rs n)) x j)
-    (List·Memᴰ·cases-cons i)
+    (where-in i)
   where
     bad : (r .to ≡ 0) ⊎ (n < r .to) → ⊥
     bad z = omega (arith, h, sum-off r rs n z, sum-all rs n)
@@ -152,4 +153,3 @@ sum-in (r ∷ rs) n h x i = ⊎-elim
     high false e = absurd (bad (inr (leb-false (r .to) n e)))
     go : x .to ≡ r .to → (0 < x .to) × (x .to ≤ n)
     go e = rw e (low (r .to) refl, high (leb (r .to) n) refl)
-

@@ -10,10 +10,11 @@ use lib.Seq.{take-all, take-append-le}
 use lib.Dec.{ltb}
 use borrow.Author.Tests.{le-ltb}
 use Rattle.paper.specs.declared.Mode.the-variants.{Intake}
-use Rattle.paper.specs.Rows.{Table}
+use Rattle.laws.proofs.RowNumbers.{table-numbers, slice-numbers}
+use Rattle.paper.specs.Rows.{Table, signed, numbers}
 use Rattle.paper.specs.Answers.{Ruling, accept, refuse, then, Chosen}
 use Rattle.paper.specs.Checks.{first, range, order}
-use Rattle.paper.specs.Predict.{or-else, chosen, predict-table}
+use Rattle.paper.specs.Predict.{or-else, chosen, predict-table, predict}
 use Rattle.paper.specs.Lists.{Opening, begins-some, stands-under, become, longest-within, longest, or-none, defined}
 use Rattle.trees.specs.Reach.{Word}
 use Rattle.trees.specs.Says.{told, Says, foretold}
@@ -101,3 +102,12 @@ predicts-defined ls t says k ranged ordered stream tokens h l =
     let no-mismatch : ltb stream (t .k) ≡ false = le-ltb stream (t .k) (omega arith) in
     let no-short : ltb (length tokens) (t .k) ≡ false = le-ltb (length tokens) (t .k) (omega arith) in
     rw (ranged, ordered, no-mismatch, no-short) (chosen-defined ls t says k tokens)
+
+-- The same of the table's numbers.
+pub predict-defined : (ls : List Opening) (t : Table) → Says t ls → t .k ≡ longest ls → range t ≡ false →
+    order t ≡ false → length (t .rows) ≤ 4096 → (stream : ℕ) (tokens : List ℕ) → longest ls ≤ stream →
+    longest ls ≤ length tokens →
+    predict Intake (signed (t .prod0)) (t .k) (numbers (t .rows)) stream tokens ≡ foretold ls tokens
+unfolding predict
+predict-defined ls t says k ranged ordered few stream tokens h l =
+    rw (slice-numbers (t .rows) few, table-numbers t) (predicts-defined ls t says k ranged ordered stream tokens h l)

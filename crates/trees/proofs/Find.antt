@@ -2,18 +2,16 @@
 use mathlib.Core.Path.{_≡_, refl, sym, _∙_, ap}
 use mathlib.Core.Bool.{Bool, true, false, cond, _&&_}
 use mathlib.Core.Option.{Option, none, some}
-use mathlib.Core.List.{List, [], _∷_, _++_, List·Memᴰ, List·Memᴰ·head, List·Memᴰ·tail}
+use mathlib.Core.List.{List, [], _∷_, _++_, List·Memᴰ·head}
 use Prim.Native.Nat.{ℕ, suc}
 use lib.ListN.{length}
 use lib.Dec.{eqb}
 use borrow.Author.Tests.{eq-eqb}
+use Rattle.laws.proofs.Members.{In, there}
 use Rattle.laws.proofs.Tests.{Test, same, apart, test, never}
 use Rattle.paper.specs.Rows.{Row, find}
 use Rattle.paper.specs.Checks.{before}
 use Rattle.paper.specs.Build.{insert}
-
-abbrev pub In : Row → List Row → Type 0
-In r rs = List·Memᴰ r rs
 
 -- A row is for a state and a terminal.
 abbrev pub is-for : Row → ℕ → ℕ → Bool
@@ -38,7 +36,7 @@ find-in [] s t r e = absurd (never e)
 find-in (x ∷ rs) s t r e = go (test (x .from) s) (test (x .terminal) t) e (find-in rs s t r)
   where
     later : In r rs × (r .from ≡ s) × (r .terminal ≡ t) → In r (x ∷ rs) × (r .from ≡ s) × (r .terminal ≡ t)
-    later k = (List·Memᴰ·tail (k .0), k .1, k .2)
+    later k = (there (k .0), k .1, k .2)
     go : Test (x .from) s (eqb (x .from) s) → Test (x .terminal) t (eqb (x .terminal) t) →
         cond (is-for x s t) (some x) (find rs s t) ≡ some r →
         (find rs s t ≡ some r → In r rs × (r .from ≡ s) × (r .terminal ≡ t)) →

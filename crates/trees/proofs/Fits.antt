@@ -3,17 +3,17 @@ use mathlib.Core.Path.{_≡_, refl, sym, _∙_, ap}
 use mathlib.Core.Logic.{⊎-elim}
 use mathlib.Core.Bool.{Bool, true, false, not, cond, _&&_}
 use mathlib.Core.Option.{Option, none, some}
-use mathlib.Core.List.{List, [], _∷_, List·Memᴰ·not-nil, Memᴰ·of-map}
+use mathlib.Core.List.{List, [], _∷_, Memᴰ·of-map}
 use Prim.Native.Nat.{ℕ, suc, _≤_, _<_}
 use native.Mathlib.Omega.{arith}
 use lib.ListN.{length}
 use lib.Dec.{eqb, leb}
 use borrow.Author.Tests.{le-leb, leb-true, not-false}
+use Rattle.laws.proofs.Members.{In, nowhere}
 use Rattle.laws.proofs.Every.{both, first-of, second-of, every-true, every-in}
 use Rattle.paper.specs.Rows.{Row, Table}
 use Rattle.paper.specs.Checks.{every, production-fits, row-fits, range}
 use Rattle.paper.specs.Build.{insert, give}
-use Rattle.trees.proofs.Find.{In}
 use Rattle.trees.proofs.Rising.{in-insert}
 use Rattle.trees.proofs.Paint.{paint, give-rows}
 use Rattle.trees.proofs.Tree.{Tree, up, to-le}
@@ -77,7 +77,7 @@ range-fits t e = record {
 
 -- ---- insert and give
 pub fits-nil : Rows-fit []
-fits-nil r i = absurd (List·Memᴰ·not-nil i)
+fits-nil r i = absurd (nowhere i)
 
 pub fits-insert : (r : Row) (rs : List Row) → Row-fits r → Rows-fit rs → Rows-fit (insert r rs)
 fits-insert r rs h f x i = ⊎-elim (λ e. rw e h) (λ j. f x j) (in-insert r rs x i)

@@ -3,17 +3,18 @@
 use mathlib.Core.Path.{_≡_, refl, sym, _∙_, ap, subst}
 use mathlib.Core.Bool.{true}
 use mathlib.Core.Option.{Option, none, some}
-use mathlib.Core.List.{List, [], _∷_, List·Memᴰ·head, List·Memᴰ·tail}
-use Prim.Native.Nat.{ℕ, suc, _≤_}
+use mathlib.Core.List.{List, [], _∷_}
+use Prim.Native.Nat.{ℕ, suc, _+_, _≤_}
 use native.Mathlib.Omega.{arith}
 use lib.ListN.{length}
+use Rattle.laws.proofs.Members.{In, here, there}
 use Rattle.paper.specs.declared.Mode.{Mode}
 use Rattle.paper.specs.Rows.{Row, Table, find}
 use Rattle.paper.specs.Answers.{Ruling, accept, refuse, then}
 use Rattle.paper.specs.Build.{insert, give}
 use Rattle.paper.specs.Unite.{taken, matched, United, take-row, take-rows}
 use Rattle.trees.specs.Views.{merge}
-use Rattle.trees.proofs.Find.{In, find-in, length-insert}
+use Rattle.trees.proofs.Find.{find-in, length-insert}
 use Rattle.trees.proofs.Paint.{length-give}
 use Rattle.trees.proofs.Fits.{Row-fits, Rows-fit, Fits, fits-insert, fits-give, root-give}
 use Rattle.trees.proofs.Taken.{Met, met, unmet, taken-met, merge-fits}
@@ -35,19 +36,20 @@ pub data Keeps (P : Table → Type 0) : Ruling United → Type 0 where
   kept : {u : United} → P (u .table) → Keeps P (accept u)
   off : {n : ℕ} {d : List ℕ} → Keeps P (refuse n d)
 
-module _ (mode : Mode) (P : Table → Type 0) (Q : Row → Type 0)
-    (on-insert : (t : Table) (r : Row) (s : ℕ) → P t → Q r → P (with-row t r s))
+-- one row: P before, P′ after
+module _ (mode : Mode) (P P′ : Table → Type 0) (Q : Row → Type 0)
+    (on-insert : (t : Table) (r : Row) (s : ℕ) → P t → Q r → P′ (with-row t r s))
     (on-give : (t : Table) (x r : Row) → In x (t .rows) → P t → Q r →
-        P (give (x .to) (merge mode (x .production) (r .production)) t)) where
+        P′ (give (x .to) (merge mode (x .production) (r .production)) t)) where
   row-keeps : (u : United) (r : Row) (o : Option Row) →
       find (u .table .rows) (matched (u .matches) (r .from)) (r .terminal) ≡ o → P (u .table) → Q r →
-      Keeps P (take-row mode u r o)
+      Keeps P′ (take-row mode u r o)
   unfolding take-row
   row-keeps u r none e p q = kept (on-insert (u .table) r (matched (u .matches) (r .from)) p q)
   row-keeps u r (some x) e p q =
       go (taken mode (x .production) (r .production)) (taken-met mode (x .production) (r .production))
     where
-      go : (g : Ruling (Option ℕ)) → Met mode (x .production) (r .production) g → Keeps P (then g (λ z. accept (record {
+      go : (g : Ruling (Option ℕ)) → Met mode (x .production) (r .production) g → Keeps P′ (then g (λ z. accept (record {
             table = give (x .to) z (u .table);
             matches = (r .to, x .to) ∷ u .matches;
           })))
@@ -56,14 +58,19 @@ module _ (mode : Mode) (P : Table → Type 0) (Q : Row → Type 0)
           kept (on-give (u .table) x r i p q)
       go g (unmet k l n) = off
 
+-- all rows
+module _ (mode : Mode) (P : Table → Type 0) (Q : Row → Type 0)
+    (on-insert : (t : Table) (r : Row) (s : ℕ) → P t → Q r → P (with-row t r s))
+    (on-give : (t : Table) (x r : Row) → In x (t .rows) → P t → Q r →
+        P (give (x .to) (merge mode (x .production) (r .production)) t)) where
   pub rows-keep : (rs : List Row) (u : United) → P (u .table) → ((r : Row) → In r rs → Q r) →
       Keeps P (take-rows mode u rs)
   unfolding take-rows
   rows-keep [] u p q = kept p
   rows-keep (r ∷ rs) u p q =
-      go (row-keeps u r (find (u .table .rows) (matched (u .matches) (r .from)) (r .terminal)) refl p
-          (q r (List·Memᴰ·head refl)))
-        (λ v p′. rows-keep rs v p′ (λ x i. q x (List·Memᴰ·tail i)))
+      go (row-keeps mode P P Q on-insert on-give u r (find (u .table .rows) (matched (u .matches) (r .from)) (r .terminal)) refl p
+          (q r here))
+        (λ v p′. rows-keep rs v p′ (λ x i. q x (there i)))
     where
       go : {g : Ruling United} → Keeps P g → ((v : United) → P (v .table) → Keeps P (take-rows mode v rs)) →
           Keeps P (then g (λ v. take-rows mode v rs))
@@ -95,6 +102,34 @@ keeps-rows mode n rs u l =
       }) (t .rows)))
       (λ t x r i p q. omega (arith, p, length-give (x .to) (merge mode (x .production) (r .production)) t))
       rs u l (λ r i. tt)
+
+-- at most one row more for each row taken
+pub keeps-most : (mode : Mode) (rs : List Row) (n : ℕ) (u : United) → length (u .table .rows) ≤ n →
+    Keeps (λ t. length (t .rows) ≤ n + length rs) (take-rows mode u rs)
+unfolding take-rows
+keeps-most mode [] n u l = kept {u = u} (omega arith)
+keeps-most mode (r ∷ rs) n u l =
+    go (row-keeps mode (λ t. length (t .rows) ≤ n) (λ t. length (t .rows) ≤ suc n) (λ x. Unit)
+        (λ t x s p q. omega (arith, p, length-insert (record {
+          from = s;
+          terminal = x .terminal;
+          to = suc (length (t .rows));
+          production = x .production;
+        }) (t .rows)))
+        (λ t x y i p q. omega (arith, p, length-give (x .to) (merge mode (x .production) (y .production)) t))
+        u r (find (u .table .rows) (matched (u .matches) (r .from)) (r .terminal)) refl l tt)
+      (keeps-most mode rs (suc n))
+  where
+    wider : {g : Ruling United} → Keeps (λ t. length (t .rows) ≤ suc n + length rs) g →
+        Keeps (λ t. length (t .rows) ≤ n + suc (length rs)) g
+    wider (kept {u = v} p) = kept {u = v} (omega arith)
+    wider off = off
+    go : {g : Ruling United} → Keeps (λ t. length (t .rows) ≤ suc n) g →
+        ((v : United) → length (v .table .rows) ≤ suc n →
+          Keeps (λ t. length (t .rows) ≤ suc n + length rs) (take-rows mode v rs)) →
+        Keeps (λ t. length (t .rows) ≤ n + suc (length rs)) (then g (λ v. take-rows mode v rs))
+    go (kept {u} p) ih = wider (ih u p)
+    go off ih = off
 
 pub keeps-fits : (mode : Mode) (rs : List Row) (u : United) → Fits (u .table) → Rows-fit rs →
     Keeps Fits (take-rows mode u rs)

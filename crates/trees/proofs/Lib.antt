@@ -28,3 +28,8 @@ pub mod States
 pub mod Beginnings
 pub mod Calls
 pub mod Chained
+pub mod Reordering
+pub mod Walk
+pub mod Accepted
+pub mod AcceptingStates
+pub mod Matches

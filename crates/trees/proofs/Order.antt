@@ -3,17 +3,19 @@
 use mathlib.Core.Path.{_≡_, refl, sym, _∙_, ap, ap₂, subst}
 use mathlib.Core.Logic.{⊎-elim, _⊎_, inl, inr}
 use mathlib.Core.Option.{Option, none, some}
-use mathlib.Core.List.{List, [], _∷_, _++_, List·Memᴰ·head, List·Memᴰ·cases-cons, List·Memᴰ·append-cases}
+use mathlib.Core.List.{List, [], _∷_, _++_, List·Memᴰ·append-cases}
 use mathlib.Core.List.{Memᴰ·append-right}
 use Prim.Native.Nat.{ℕ, _≤_, _<_}
 use native.Mathlib.Omega.{arith}
 use lib.ListN.{length}
 use lib.Seq.{append-snoc}
 use lib.Dec.{eqb}
+use Rattle.laws.proofs.Members.{In, here, where-in}
 use Rattle.laws.proofs.Tests.{Test, same, apart, test, never}
 use Rattle.paper.specs.Rows.{Row, find}
-use Rattle.trees.proofs.Find.{In, find-in, find-left}
-use Rattle.trees.proofs.Rising.{Before, Rising, before-last, after-last, rising-front, in-find, not-before-itself}
+use Rattle.trees.proofs.Find.{find-in, find-left}
+use Rattle.laws.proofs.RowsRise.{Before, RowsRise}
+use Rattle.trees.proofs.Rising.{before-last, after-last, rising-front, in-find, not-before-itself}
 use Rattle.trees.proofs.Tree.{Tree, found, up, to-le, into}
 
 -- r may follow the rows D.
@@ -40,12 +42,12 @@ module _ (rs : List Row) (tr : Tree rs) where
     known = known (test (r .from) 0);
   }
     where
-      rising : Rising (D ++ r ∷ rest)
-      rising = subst Rising e (tr .rising)
-      there : In r rs
-      there = subst (λ (l : List Row). In r l) (sym e) (Memᴰ·append-right D (List·Memᴰ·head refl))
+      rising : RowsRise (D ++ r ∷ rest)
+      rising = subst RowsRise e (tr .rising)
+      inside : In r rs
+      inside = subst (λ (l : List Row). In r l) (sym e) (Memᴰ·append-right D here)
       rise : r .from < r .to
-      rise = up rs tr r there
+      rise = up rs tr r inside
       no-later : (x : Row) → In x D → x .from ≤ r .from
       no-later x i = ⊎-elim (λ b. omega (arith, b)) (λ b. omega (arith, b .0)) (before-last D r rest rising x i)
       absent : (s t : ℕ) → ((x : Row) → In x D → x .from ≡ s → x .terminal ≡ t → ⊥) → find D s t ≡ none
@@ -58,7 +60,7 @@ module _ (rs : List Row) (tr : Tree rs) where
       lift s t x k = subst (λ (l : List Row). find l s t ≡ some x) (sym e) (find-left D (r ∷ rest) s t x k)
       fresh : (s t : ℕ) (x : Row) → find D s t ≡ some x → x .to ≡ r .to → ⊥
       fresh s t x k l =
-          let (a, b) = tr .branching .one s t (r .from) (r .terminal) x r (lift s t x k) (found rs tr r there) l in
+          let (a, b) = tr .branching .one s t (r .from) (r .terminal) x r (lift s t x k) (found rs tr r inside) l in
           let (i, p, q) = find-in D s t x k in
           not-before-itself x r (before-last D r rest rising x i) (sym (p ∙ a), sym (q ∙ b))
       -- the row into r's from comes earlier, since it leaves a lower state
@@ -66,13 +68,13 @@ module _ (rs : List Row) (tr : Tree rs) where
           (r .from ≡ 0) ⊎ ((x : Row) × In x D × (find D (x .from) (x .terminal) ≡ some x) × (x .to ≡ r .from))
       known (same k _) = inl k
       known (apart k _) =
-          let (x, i, e₁) = into rs tr (r .from) (omega arith) (omega (arith, rise, to-le rs tr r there)) in
+          let (x, i, e₁) = into rs tr (r .from) (omega arith) (omega (arith, rise, to-le rs tr r inside)) in
           let lower : x .from < r .from = omega (arith, up rs tr x i, e₁) in
           let later : (In x (r ∷ rest)) → ⊥ = λ j. ⊎-elim
                 (λ z. omega (arith, ap (λ (y : Row). y .from) z, lower))
                 (λ z. ⊎-elim (λ b. omega (arith, b, lower)) (λ b. omega (arith, b .0, lower))
                   (after-last D r rest rising x z))
-                (List·Memᴰ·cases-cons j) in
+                (where-in j) in
           let in-D : In x D = ⊎-elim (λ j. j) (λ j. absurd (later j))
                 (List·Memᴰ·append-cases D (subst (λ (l : List Row). In x l) e i)) in
           inr (x, in-D, in-find D x (rising-front D (r ∷ rest) rising) in-D, e₁)

@@ -9,8 +9,8 @@ use lib.Dec.{eqb}
 use Rattle.laws.proofs.Tests.{never}
 use Rattle.paper.specs.Rows.{Row, Table, find}
 use Rattle.paper.specs.Build.{give}
-use Rattle.trees.proofs.Find.{In, is-for}
-use Rattle.trees.proofs.Rising.{Before, Rising, rising-nil, rising-cons}
+use Rattle.trees.proofs.Find.{is-for}
+use Rattle.laws.proofs.RowsRise.{Before, RowsRise, rows-nil, rows-cons}
 
 -- A row into the state s takes the production q.
 unfoldable pub paint : ℕ → Option ℕ → Row → Row
@@ -55,12 +55,12 @@ unfolding painted paint
 painted-inv s q none r e = absurd (never e)
 painted-inv s q (some x) r e = (x, refl, cc)
 
-pub rising-paint : (s : ℕ) (q : Option ℕ) (rs : List Row) → Rising rs → Rising (map (paint s q) rs)
+pub rising-paint : (s : ℕ) (q : Option ℕ) (rs : List Row) → RowsRise rs → RowsRise (map (paint s q) rs)
 unfolding paint
-rising-paint s q [] h = rising-nil
-rising-paint s q (r ∷ rs) (rising-cons h k) = rising-cons
+rising-paint s q [] h = rows-nil
+rising-paint s q (r ∷ rs) (rows-cons h k) = rows-cons
     (λ x i. let (y, j, e) = Memᴰ·of-map (paint s q) rs i in subst (λ (z : Row). Before (paint s q r) z) e (h y j))
     (rising-paint s q rs k)
 
-pub rising-give : (s : ℕ) (q : Option ℕ) (t : Table) → Rising (t .rows) → Rising (give s q t .rows)
+pub rising-give : (s : ℕ) (q : Option ℕ) (t : Table) → RowsRise (t .rows) → RowsRise (give s q t .rows)
 rising-give s q t h = rw give-rows (rising-paint s q (t .rows) h)

@@ -1,27 +1,21 @@
--- Rows that rise by (from, terminal): `insert` keeps them rising, and each is found; the check for it. Assumes nothing.
+-- Rows that rise by (from, terminal): `insert` keeps them rising, each is found, and a part of them rises.
+-- Assumes nothing.
 use mathlib.Core.Path.{_≡_, refl, sym, _∙_, ap, subst}
 use mathlib.Core.Logic.{⊎-elim, _⊎_, inl, inr}
 use mathlib.Core.Bool.{Bool, true, false, cond, _&&_, false≢true}
 use mathlib.Core.Option.{Option, none, some}
-use mathlib.Core.List.{List, [], _∷_, _++_, map, List·Memᴰ·head, List·Memᴰ·tail, List·Memᴰ·not-nil}
-use mathlib.Core.List.{List·Memᴰ·cases-cons, Memᴰ·append-left, Memᴰ·append-right}
+use mathlib.Core.List.{List, [], _∷_, _++_, map, List·Memᴰ·head}
+use mathlib.Core.List.{Memᴰ·append-left, Memᴰ·append-right}
 use Prim.Native.Nat.{ℕ, _<_}
 use native.Mathlib.Omega.{arith}
 use lib.Dec.{eqb, ltb}
+use Rattle.laws.proofs.Members.{In, here, there, nowhere, where-in}
 use Rattle.laws.proofs.Tests.{Test, same, apart, test, Below, is-below, not-below, below?, never}
-use Rattle.laws.proofs.Every.{both, first-of, second-of}
+use Rattle.laws.proofs.RowsRise.{Before, RowsRise, rows-nil, rows-cons}
 use Rattle.paper.specs.Rows.{Row, find}
-use Rattle.paper.specs.Checks.{before, rising}
+use Rattle.paper.specs.Checks.{before}
 use Rattle.paper.specs.Build.{insert}
-use Rattle.trees.proofs.Find.{In, is-for, is-for-self, is-for-other}
-
-abbrev pub Before : Row → Row → Type 0
-Before a b = (a .from < b .from) ⊎ ((a .from ≡ b .from) × (a .terminal < b .terminal))
-
--- Each row stands before all that follow it.
-pub data Rising : List Row → Type 0 where
-  rising-nil : Rising []
-  rising-cons : {r : Row} {rs : List Row} → ((x : Row) → In x rs → Before r x) → Rising rs → Rising (r ∷ rs)
+use Rattle.trees.proofs.Find.{is-for, is-for-self, is-for-other}
 
 pub before-trans : (a b c : Row) → Before a b → Before b c → Before a c
 before-trans a b c (inl p) (inl q) = inl (omega arith)
@@ -54,86 +48,49 @@ order? a b = go (below? (a .from) (b .from)) (test (a .from) (b .from))
     go (not-below l e) (same k f) (not-below m g) (apart n h) = after (inr (sym k, omega arith)) (rw (e, f, g))
     go (not-below l e) (apart k f) g h = after (inl (omega arith)) (rw (e, f))
 
-pub before-true : (a b : Row) → Before a b → before a b ≡ true
-before-true a b h = go (order? a b) h
-  where
-    go : Order a b (before a b) → Before a b → before a b ≡ true
-    go (first _ e) _ = e
-    go (after p e) q = absurd (not-before-itself a a (before-trans a b a q p) (refl, refl))
-    go (level p e) q = absurd (not-before-itself a b q (sym (p .0), sym (p .1)))
-
-pub true-before : (a b : Row) → before a b ≡ true → Before a b
-true-before a b h = go (order? a b) h
-  where
-    go : Order a b (before a b) → before a b ≡ true → Before a b
-    go (first p _) _ = p
-    go (after _ e) k = absurd (false≢true (sym e ∙ k))
-    go (level _ e) k = absurd (false≢true (sym e ∙ k))
-
--- ---- the check
-pub rising-true : (rs : List Row) → Rising rs → rising rs ≡ true
-unfolding rising
-rising-true [] h = refl
-rising-true (a ∷ []) h = refl
-rising-true (a ∷ b ∷ rs) (rising-cons h k) =
-    both (before a b) (rising (b ∷ rs)) (before-true a b (h b (List·Memᴰ·head refl))) (rising-true (b ∷ rs) k)
-
-pub true-rising : (rs : List Row) → rising rs ≡ true → Rising rs
-unfolding rising
-true-rising [] e = rising-nil
-true-rising (a ∷ []) e = rising-cons (λ x i. absurd (List·Memᴰ·not-nil i)) rising-nil
-true-rising (a ∷ b ∷ rs) e =
-    let p = true-before a b (first-of (before a b) (rising (b ∷ rs)) e) in
-    let h = true-rising (b ∷ rs) (second-of (before a b) (rising (b ∷ rs)) e) in
-    rising-cons (λ x i. ⊎-elim (λ k. subst (λ (z : Row). Before a z) (sym k) p)
-        (λ j. before-trans a b x p (ahead b rs h x j)) (List·Memᴰ·cases-cons i)) h
-  where
-    ahead : (r : Row) (rs : List Row) → Rising (r ∷ rs) → (x : Row) → In x rs → Before r x
-    ahead r rs (rising-cons h k) = h
-
 -- ---- insert
 pub in-insert : (r : Row) (rs : List Row) (x : Row) → In x (insert r rs) → (x ≡ r) ⊎ In x rs
 unfolding insert
-in-insert r [] x i = List·Memᴰ·cases-cons i
+in-insert r [] x i = where-in i
 in-insert r (y ∷ ys) x i = go (before r y) i (in-insert r ys x)
   where
     go : (b : Bool) → In x (cond b (r ∷ y ∷ ys) (y ∷ insert r ys)) → (In x (insert r ys) → (x ≡ r) ⊎ In x ys) →
         (x ≡ r) ⊎ In x (y ∷ ys)
-    go true j ih = List·Memᴰ·cases-cons j
+    go true j ih = where-in j
     go false j ih = ⊎-elim
         (λ e. inr (List·Memᴰ·head e))
-        (λ k. ⊎-elim (λ e. inl e) (λ l. inr (List·Memᴰ·tail l)) (ih k))
-        (List·Memᴰ·cases-cons j)
+        (λ k. ⊎-elim (λ e. inl e) (λ l. inr (there l)) (ih k))
+        (where-in j)
 
 -- An insertion keeps rows rising, unless the key is there.
-pub rising-insert : (r : Row) (rs : List Row) → Rising rs → find rs (r .from) (r .terminal) ≡ none →
-    Rising (insert r rs)
+pub rising-insert : (r : Row) (rs : List Row) → RowsRise rs → find rs (r .from) (r .terminal) ≡ none →
+    RowsRise (insert r rs)
 unfolding insert find
-rising-insert r [] h e = rising-cons (λ x i. absurd (List·Memᴰ·not-nil i)) rising-nil
-rising-insert r (y ∷ ys) (rising-cons h s) e =
+rising-insert r [] h e = rows-cons (λ x i. absurd (nowhere i)) rows-nil
+rising-insert r (y ∷ ys) (rows-cons h s) e =
     go (order? r y) (is-for y (r .from) (r .terminal)) refl e (rising-insert r ys s)
   where
     f : Option Row
     f = find ys (r .from) (r .terminal)
     with-r : Before r y → (x : Row) → In x (y ∷ ys) → Before r x
     with-r p x i = ⊎-elim (λ k. subst (λ (z : Row). Before r z) (sym k) p)
-        (λ j. before-trans r y x p (h x j)) (List·Memᴰ·cases-cons i)
+        (λ j. before-trans r y x p (h x j)) (where-in i)
     with-y : Before y r → (x : Row) → In x (insert r ys) → Before y x
     with-y p x i = ⊎-elim (λ k. subst (λ (z : Row). Before y z) (sym k) p) (λ j. h x j) (in-insert r ys x i)
     taken : (r .from ≡ y .from) × (r .terminal ≡ y .terminal) → is-for y (r .from) (r .terminal) ≡ true
     taken p = rw (p .0, p .1) (is-for-self y)
     go : Order r y (before r y) → (b : Bool) → is-for y (r .from) (r .terminal) ≡ b → cond b (some y) f ≡ none →
-        (f ≡ none → Rising (insert r ys)) → Rising (cond (before r y) (r ∷ y ∷ ys) (y ∷ insert r ys))
+        (f ≡ none → RowsRise (insert r ys)) → RowsRise (cond (before r y) (r ∷ y ∷ ys) (y ∷ insert r ys))
     go o true k l ih = absurd (never (sym l))
-    go (first p q) false k l ih = rw q (rising-cons {r = r} {rs = y ∷ ys} (with-r p) (rising-cons h s))
-    go (after p q) false k l ih = rw q (rising-cons {r = y} {rs = insert r ys} (with-y p) (ih l))
+    go (first p q) false k l ih = rw q (rows-cons {r = r} {rs = y ∷ ys} (with-r p) (rows-cons h s))
+    go (after p q) false k l ih = rw q (rows-cons {r = y} {rs = insert r ys} (with-y p) (ih l))
     go (level p q) false k l ih = absurd (false≢true (sym k ∙ taken p))
 
 -- ---- of rising rows each is found
-pub in-find : (rs : List Row) (r : Row) → Rising rs → In r rs → find rs (r .from) (r .terminal) ≡ some r
+pub in-find : (rs : List Row) (r : Row) → RowsRise rs → In r rs → find rs (r .from) (r .terminal) ≡ some r
 unfolding find
-in-find [] r h i = absurd (List·Memᴰ·not-nil i)
-in-find (x ∷ rs) r (rising-cons h k) i = go (List·Memᴰ·cases-cons i) (in-find rs r k)
+in-find [] r h i = absurd (nowhere i)
+in-find (x ∷ rs) r (rows-cons h k) i = go (where-in i) (in-find rs r k)
   where
     found : Row → Type 0
     found z = cond (is-for x (z .from) (z .terminal)) (some x) (find rs (z .from) (z .terminal)) ≡ some z
@@ -142,18 +99,18 @@ in-find (x ∷ rs) r (rising-cons h k) i = go (List·Memᴰ·cases-cons i) (in-f
     go (inr j) ih = rw (is-for-other x (r .from) (r .terminal) (not-before-itself x r (h r j))) (ih j)
 
 -- ---- a part of rising rows
-pub before-last : (D : List Row) (r : Row) (rest : List Row) → Rising (D ++ r ∷ rest) → (x : Row) → In x D → Before x r
-before-last [] r rest h x i = absurd (List·Memᴰ·not-nil i)
-before-last (d ∷ D) r rest (rising-cons h k) x i = ⊎-elim
-    (λ e. subst (λ (z : Row). Before z r) (sym e) (h r (Memᴰ·append-right D (List·Memᴰ·head refl))))
+pub before-last : (D : List Row) (r : Row) (rest : List Row) → RowsRise (D ++ r ∷ rest) → (x : Row) → In x D → Before x r
+before-last [] r rest h x i = absurd (nowhere i)
+before-last (d ∷ D) r rest (rows-cons h k) x i = ⊎-elim
+    (λ e. subst (λ (z : Row). Before z r) (sym e) (h r (Memᴰ·append-right D here)))
     (λ j. before-last D r rest k x j)
-    (List·Memᴰ·cases-cons i)
+    (where-in i)
 
-pub after-last : (D : List Row) (r : Row) (rest : List Row) → Rising (D ++ r ∷ rest) → (x : Row) → In x rest → Before r x
-after-last [] r rest (rising-cons h k) x i = h x i
-after-last (d ∷ D) r rest (rising-cons h k) x i = after-last D r rest k x i
+pub after-last : (D : List Row) (r : Row) (rest : List Row) → RowsRise (D ++ r ∷ rest) → (x : Row) → In x rest → Before r x
+after-last [] r rest (rows-cons h k) x i = h x i
+after-last (d ∷ D) r rest (rows-cons h k) x i = after-last D r rest k x i
 
-pub rising-front : (D rest : List Row) → Rising (D ++ rest) → Rising D
-rising-front [] rest h = rising-nil
-rising-front (d ∷ D) rest (rising-cons h k) =
-    rising-cons (λ x i. h x (Memᴰ·append-left rest i)) (rising-front D rest k)
+pub rising-front : (D rest : List Row) → RowsRise (D ++ rest) → RowsRise D
+rising-front [] rest h = rows-nil
+rising-front (d ∷ D) rest (rows-cons h k) =
+    rows-cons (λ x i. h x (Memᴰ·append-left rest i)) (rising-front D rest k)

@@ -3,9 +3,10 @@ use mathlib.Core.Path.{_≡_, refl, sym, _∙_, ap, subst}
 use mathlib.Core.Logic.{⊎-elim, _⊎_, inl, inr}
 use mathlib.Core.Option.{Option, none, some}
 use mathlib.Core.List.{List, [], _∷_, _++_, append-nil, reverse, reverseAux, reverse-reverse, List-discrete}
-use mathlib.Core.List.{List·Memᴰ, List·Memᴰ·head, List·Memᴰ·tail, List·Memᴰ·not-nil, List·Memᴰ·cases-cons}
+use mathlib.Core.List.{List·Memᴰ·head}
 use Prim.Native.Nat.{ℕ}
 use native.Mathlib.Decide.{ℕ-discrete}
+use Rattle.laws.proofs.Members.{In, here, there, nowhere, where-in}
 use Rattle.laws.proofs.Tests.{never}
 use Rattle.paper.specs.declared.Mode.the-variants.{Intake}
 use Rattle.paper.specs.Predict.{or-else}
@@ -115,18 +116,18 @@ module _ (q : ℕ) where
 
   -- ---- a list of strings
   pub strings-claim : (σs : List (List ℕ)) (p : List ℕ) (q′ : ℕ) → strings-word q σs (reverse p) ≡ some (some q′) →
-      (q ≡ q′) × List·Memᴰ p σs
+      (q ≡ q′) × In p σs
   unfolding strings-word
   strings-claim [] p q′ e = absurd (never e)
   strings-claim (σ ∷ σs) p q′ e = ⊎-elim
       (λ k. let (a, b) = string-claim σ p q′ k in (b, List·Memᴰ·head a))
-      (λ k. let (a, b) = strings-claim σs p q′ k in (a, List·Memᴰ·tail b))
+      (λ k. let (a, b) = strings-claim σs p q′ k in (a, there b))
       (join-claim (string-word q σ (reverse p)) (strings-word q σs (reverse p)) q′ e)
 
-  pub strings-stand : (σs : List (List ℕ)) (σ : List ℕ) → List·Memᴰ σ σs →
+  pub strings-stand : (σs : List (List ℕ)) (σ : List ℕ) → In σ σs →
       strings-word q σs (reverse σ) ≡ some (some q)
   unfolding strings-word
-  strings-stand [] σ i = absurd (List·Memᴰ·not-nil i)
+  strings-stand [] σ i = absurd (nowhere i)
   strings-stand (τ ∷ σs) σ i =
       let x : Word = string-word q τ (reverse σ) in
       let y : Word = strings-word q σs (reverse σ) in
@@ -134,21 +135,21 @@ module _ (q : ℕ) where
         (λ e. claim-left x y q (ap (λ (z : List ℕ). string-word q τ (reverse z)) e ∙ string-here τ)
           (λ q′ k. strings-claim σs σ q′ k .0))
         (λ j. claim-right x y q (strings-stand σs σ j))
-        (List·Memᴰ·cases-cons i)
+        (where-in i)
 
   pub strings-dom : (σs : List (List ℕ)) (p : List ℕ) (x : Option ℕ) → strings-word q σs (reverse p) ≡ some x →
-      (σ : List ℕ) × List·Memᴰ σ σs × Begins p σ
+      (σ : List ℕ) × In σ σs × Begins p σ
   unfolding strings-word
   strings-dom [] p x e = absurd (never e)
   strings-dom (σ ∷ σs) p x e = ⊎-elim
-      (λ k. (σ, List·Memᴰ·head refl, string-dom σ p (k .0) (k .1)))
-      (λ k. let (τ, i, b) = strings-dom σs p (k .0) (k .1) in (τ, List·Memᴰ·tail i, b))
+      (λ k. (σ, here, string-dom σ p (k .0) (k .1)))
+      (λ k. let (τ, i, b) = strings-dom σs p (k .0) (k .1) in (τ, there i, b))
       (join-dom (string-word q σ (reverse p)) (strings-word q σs (reverse p)) x e)
 
-  pub strings-begun : (σs : List (List ℕ)) (σ p : List ℕ) → List·Memᴰ σ σs → Begins p σ → (p ≡ [] → ⊥) →
+  pub strings-begun : (σs : List (List ℕ)) (σ p : List ℕ) → In σ σs → Begins p σ → (p ≡ [] → ⊥) →
       (x : Option ℕ) × (strings-word q σs (reverse p) ≡ some x)
   unfolding strings-word
-  strings-begun [] σ p i b n = absurd (List·Memᴰ·not-nil i)
+  strings-begun [] σ p i b n = absurd (nowhere i)
   strings-begun (τ ∷ σs) σ p i b n =
       let x : Word = string-word q τ (reverse p) in
       let y : Word = strings-word q σs (reverse p) in
@@ -157,4 +158,4 @@ module _ (q : ℕ) where
           let (z, k) = string-begun p (b .0) n in
           join-left x y z (ap (λ (z : List ℕ). string-word q z (reverse p)) (sym e ∙ b .1) ∙ k))
         (λ j. let (z, k) = strings-begun σs σ p j b n in join-right x y z k)
-        (List·Memᴰ·cases-cons i)
+        (where-in i)

@@ -4,12 +4,13 @@ use mathlib.Core.Logic.{⊎-elim, _⊎_, inl, inr}
 use mathlib.Core.Bool.{Bool, true, false, cond, false≢true}
 use mathlib.Core.Option.{Option, none, some}
 use mathlib.Core.List.{List, [], _∷_, _++_, reverse, reverse-reverse, List-discrete, nil≢cons}
-use mathlib.Core.List.{List·Memᴰ, List·Memᴰ·head, List·Memᴰ·tail, List·Memᴰ·append-cases, List·Memᴰ·eq-of-singleton}
+use mathlib.Core.List.{List·Memᴰ·append-cases, List·Memᴰ·eq-of-singleton}
 use mathlib.Core.List.{Memᴰ·append-left, Memᴰ·append-right}
 use Prim.Native.Nat.{ℕ, _<_}
 use native.Mathlib.Omega.{arith}
 use native.Mathlib.Decide.{ℕ-discrete}
 use lib.ListN.{length}
+use Rattle.laws.proofs.Members.{In, here}
 use Rattle.laws.proofs.Tests.{never}
 use Rattle.paper.specs.declared.Mode.the-variants.{Intake}
 use Rattle.paper.specs.Rows.{Table}
@@ -33,7 +34,7 @@ pub record Tells (D : List ℕ → Word) (ls : List Opening) : Type 0 where
   pub begun : (p : List ℕ) → Begun ls p → (x : Option ℕ) × (D p ≡ some x)
 
 -- ---- more lists
-module _ (ls ls′ : List Opening) (sub : (l : Opening) → List·Memᴰ l ls → List·Memᴰ l ls′) where
+module _ (ls ls′ : List Opening) (sub : (l : Opening) → In l ls → In l ls′) where
   pub stands-more : (σ : List ℕ) (q : ℕ) → Stands ls σ q → Stands ls′ σ q
   stands-more σ q s =
       record { list = s .list; listed = sub (s .list) (s .listed); under = s .under; string = s .string }
@@ -66,8 +67,8 @@ module _ (q : ℕ) (σ : List ℕ) (σs : List (List ℕ)) where
       root p = only [] none (reverse p)
       rest : List ℕ → Word
       rest p = strings-word q (σ ∷ σs) (reverse p)
-      own : (τ : List ℕ) (l : Opening) → List·Memᴰ l ls → List·Memᴰ τ (l .strings) → List·Memᴰ τ (σ ∷ σs)
-      own τ l i j = subst (λ (z : Opening). List·Memᴰ τ (z .strings)) (List·Memᴰ·eq-of-singleton i) j
+      own : (τ : List ℕ) (l : Opening) → In l ls → In τ (l .strings) → In τ (σ ∷ σs)
+      own τ l i j = subst (λ (z : Opening). In τ (z .strings)) (List·Memᴰ·eq-of-singleton i) j
       no-claim : (p : List ℕ) (q′ : ℕ) → root p ≡ some (some q′) → ⊥
       no-claim p q′ e = ⊎-elim (λ k. never (sym k ∙ e)) (λ k. let z : none ≡ some q′ = cc in never z) (blank [] (reverse p))
       claim : (p : List ℕ) (q′ : ℕ) → view (built q (σ ∷ σs)) p ≡ some (some q′) → Stands ls p q′
@@ -75,7 +76,7 @@ module _ (q : ℕ) (σ : List ℕ) (σs : List (List ℕ)) where
           (λ k. absurd (no-claim p q′ k))
           (λ k.
             let (a, i) = strings-claim q (σ ∷ σs) p q′ k in
-            record { list = one; listed = List·Memᴰ·head refl; under = a; string = i })
+            record { list = one; listed = here; under = a; string = i })
           (join-claim (root p) (rest p) q′ (sym (is p) ∙ e))
       stands : (p : List ℕ) (q′ : ℕ) → Stands ls p q′ → view (built q (σ ∷ σs)) p ≡ some (some q′)
       stands p q′ s =
@@ -91,7 +92,7 @@ module _ (q : ℕ) (σ : List ℕ) (σs : List (List ℕ)) where
           go (no h) (inl k) = absurd (never (sym (only-off [] (reverse p) none h) ∙ k .1))
           go (no h) (inr k) =
               let (τ, i, b) = strings-dom q (σ ∷ σs) p (k .0) (k .1) in
-              inr (record { list = one; listed = List·Memᴰ·head refl; string = τ; within = i; begins = b })
+              inr (record { list = one; listed = here; string = τ; within = i; begins = b })
       begun : (p : List ℕ) → Begun ls p → (x : Option ℕ) × (view (built q (σ ∷ σs)) p ≡ some x)
       begun p b = go (List-discrete ℕ-discrete p [])
         where
@@ -131,11 +132,11 @@ tells-join D E ls ls′ a b agree = record {
       (List·Memᴰ·append-cases ls (n .listed));
 }
   where
-    left : (l : Opening) → List·Memᴰ l ls → List·Memᴰ l (ls ++ ls′)
+    left : (l : Opening) → In l ls → In l (ls ++ ls′)
     left l i = Memᴰ·append-left ls′ i
-    right : (l : Opening) → List·Memᴰ l ls′ → List·Memᴰ l (ls ++ ls′)
+    right : (l : Opening) → In l ls′ → In l (ls ++ ls′)
     right l i = Memᴰ·append-right ls i
-    part : (ms : List Opening) (p : List ℕ) (n : Begun (ls ++ ls′) p) → List·Memᴰ (n .list) ms → Begun ms p
+    part : (ms : List Opening) (p : List ℕ) (n : Begun (ls ++ ls′) p) → In (n .list) ms → Begun ms p
     part ms p n k =
         record { list = n .list; listed = k; string = n .string; within = n .within; begins = n .begins }
 
@@ -151,9 +152,9 @@ tells-says t l ls filled tells σ = go (begins-some (l ∷ ls) σ) refl (view t 
     empty [] h e = absurd (omega arith)
     empty (τ ∷ τs) h e = record {
       list = l;
-      listed = List·Memᴰ·head refl;
+      listed = here;
       string = τ;
-      within = subst (λ (z : List (List ℕ)). List·Memᴰ τ z) e (List·Memᴰ·head refl);
+      within = subst (λ (z : List (List ℕ)). In τ z) e here;
       begins = (τ, refl);
     }
     begun : (x : Option ℕ) → view t σ ≡ some x → begins-some (l ∷ ls) σ ≡ true

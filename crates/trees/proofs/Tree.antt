@@ -6,12 +6,14 @@ use Prim.Native.Nat.{ℕ, suc, _≤_, _<_}
 use native.Mathlib.Omega.{arith}
 use lib.ListN.{length, length-map}
 use lib.Dec.{eqb}
+use Rattle.laws.proofs.Members.{In, here}
 use Rattle.laws.proofs.Tests.{Test, same, apart, test, never}
 use Rattle.paper.specs.Rows.{Row, Table, find}
 use Rattle.paper.specs.Build.{insert, give}
 use Rattle.trees.specs.Reach.{Seat, Finder}
-use Rattle.trees.proofs.Find.{In, find-in, find-nil, length-insert, find-insert-here, find-insert-other}
-use Rattle.trees.proofs.Rising.{Rising, rising-nil, rising-insert, in-find}
+use Rattle.trees.proofs.Find.{find-in, find-nil, length-insert, find-insert-here, find-insert-other}
+use Rattle.laws.proofs.RowsRise.{RowsRise, rows-nil}
+use Rattle.trees.proofs.Rising.{rising-insert, in-find}
 use Rattle.trees.proofs.Paint.{paint, painted, find-paint, rising-paint, give-rows}
 use Rattle.trees.proofs.Paths.{path, Branching, Capped, low, leaf}
 use Rattle.trees.proofs.Grown.{Grown, grown-tree, grown-cap}
@@ -21,7 +23,7 @@ use Rattle.trees.proofs.Given.{tree-given, cap-given}
 pub record Tree (rs : List Row) : Type 0 where
   pub branching : Branching (find rs)
   pub cap : Capped (find rs) (length rs)
-  pub rising : Rising rs
+  pub rising : RowsRise rs
   pub onto : (n : ℕ) → 0 < n → n ≤ length rs →
       (s : ℕ) × (t : ℕ) × (r : Row) × (find rs s t ≡ some r) × (r .to ≡ n)
 
@@ -32,7 +34,7 @@ no-rows = record {
     one = λ s t s′ t′ r r′ e. absurd (find-nil s t r e);
   };
   cap = λ s t r e. absurd (find-nil s t r e);
-  rising = rising-nil;
+  rising = rows-nil;
   onto = λ n l h. absurd (omega arith);
 }
 

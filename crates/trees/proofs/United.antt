@@ -131,13 +131,13 @@ path-nil p (u ∷ w) t = ap (λ (o : Option Seat). onward (find []) o t) (path-n
 
 module _ (mode : Mode) (A : Table) (tr : Tree (A .rows)) (pB : Option ℕ) (k : ℕ)
     (h : (p q : ℕ) → A .prod0 ≡ some p → pB ≡ some q → p ≡ q) where
-  begun : United
+  unfoldable pub begun : United
   begun = record {
     table = record { prod0 = merge mode (A .prod0) pB; k = k; rows = A .rows };
     matches = [];
   }
 
-  matching-start : Matching mode (word A) pB [] begun
+  pub matching-start : Matching mode (word A) pB [] begun
   unfolding begun word said path join matched
   matching-start = record {
     tree = tr;

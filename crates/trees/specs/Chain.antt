@@ -10,9 +10,11 @@ use Rattle.paper.specs.Rows.{signed, numbers}
 use Rattle.paper.specs.Answers.{Ruling, accept, refuse, then, Made}
 use Rattle.paper.specs.Build.{build}
 use Rattle.paper.specs.Unite.{unite}
-use Rattle.paper.specs.Lists.{Opening, longest}
+use Rattle.paper.specs.Predict.{chosen}
+use Rattle.paper.specs.Lists.{Opening, longest, all-beginnings, distinct}
 use Rattle.paper.specs.Cases.{joined}
 use Rattle.trees.specs.Trees.{Sound}
+use Rattle.trees.specs.Reach.{view}
 use Rattle.trees.specs.Says.{Says, Stands}
 
 -- A list is built.
@@ -44,7 +46,8 @@ pub record Conflict (ls : List Opening) (p q : ℕ) : Type 0 where
 pub record United-lists (ls : List Opening) (m : Made) : Type 0 where
   pub one-number : (σ : List ℕ) (p q : ℕ) → Stands ls σ p → Stands ls σ q → p ≡ q
   pub sound : Sound (m .table)
-  pub states : m .states ≡ suc (length (m .table .rows))
+  pub counted : m .states ≡ suc (length (m .table .rows))
+  pub states : m .states ≡ length (distinct (all-beginnings ls))
   pub says : Says (m .table) ls
   pub longest : m .table .k ≡ longest ls
 
@@ -52,3 +55,20 @@ pub record United-lists (ls : List Opening) (m : Made) : Type 0 where
 pub data Chained (ls : List Opening) : Ruling Made → Type 0 where
   united : {m : Made} → United-lists ls m → Chained ls (accept m)
   clashed : {p q : ℕ} → Conflict ls p q → Chained ls (refuse 8 (p ∷ q ∷ []))
+
+-- The same lists, in any order.
+pub record Reordered (ls ls′ : List Opening) : Type 0 where
+  pub there : (l : Opening) → List·Memᴰ l ls → List·Memᴰ l ls′
+  pub back : (l : Opening) → List·Memᴰ l ls′ → List·Memᴰ l ls
+
+-- Two tables that give the same: they say the same of each string, and predict the same.
+pub record Same (m m′ : Made) : Type 0 where
+  pub views : (σ : List ℕ) → view (m .table) σ ≡ view (m′ .table) σ
+  pub longest : m .table .k ≡ m′ .table .k
+  pub states : m .states ≡ m′ .states
+  pub predictions : (tokens : List ℕ) → chosen Intake (m .table) tokens ≡ chosen Intake (m′ .table) tokens
+
+-- Both are refused for a clash, or both give the same.
+pub data Same-end : Ruling Made → Ruling Made → Type 0 where
+  both-united : {m m′ : Made} → Same m m′ → Same-end (accept m) (accept m′)
+  both-clashed : {p q p′ q′ : ℕ} → Same-end (refuse 8 (p ∷ q ∷ [])) (refuse 8 (p′ ∷ q′ ∷ []))

@@ -5,3 +5,4 @@ pub mod Bounds
 pub mod Unions
 pub mod Says
 pub mod Chain
+pub mod Accepting

@@ -1,11 +1,8 @@
-use mathlib.Core.Path.{_≡_, refl, sym, ap, _∙_}
-use Prim.Native.Nat.{ℕ, _<_, _-_}
+-- The test of one row for SPLIT, by the row that marks its to. Assumes nothing.
+use Prim.Native.Nat.{_-_}
 use native.Mathlib.Omega.{arith}
-use Rattle.paper.specs.Rows.{rows-in}
-use Rattle.rows.specs.Places.{row-at}
-use Rattle.ruled.specs.Into.{into-from}
 use Rattle.ruled.proofs.Arrays.{bound}
-use Rattle.ruled.proofs.Splits.{first-of, first-read, differs-mark}
+use Rattle.ruled.proofs.Splits.{first-read, differs-mark}
 use borrow.Author.Needs.{needs}
 use Rattle.ruled.proofs.checks.differs.Statement.{statement}
 use Rattle.ruled.proofs.checks.differs.Tie as tie
@@ -44,7 +41,7 @@ sub-code-at c =
     let t = w .before .before in
     let s = t .before in
     let f = first-read (s .args .rows .now) (s .args .into .now) (s .args .i) (t .to-at .result) (w .wide .result)
-        (s .pre .0) (s .pre .1) (s .pre .2) (t .to-at .ensures .is) (w .wide .ensures .0) in
+    (s .pre .0) (s .pre .1) (s .pre .2) (t .to-at .ensures .is) (w .wide .ensures .0) in
     f .0
 
 -- src/checks.rt:47:34
@@ -54,7 +51,7 @@ code-at-requires-2 c κs =
     let t = w .before .before in
     let s = t .before in
     let f = first-read (s .args .rows .now) (s .args .into .now) (s .args .i) (t .to-at .result) (w .wide .result)
-        (s .pre .0) (s .pre .1) (s .pre .2) (t .to-at .ensures .is) (w .wide .ensures .0) in
+    (s .pre .0) (s .pre .1) (s .pre .2) (t .to-at .ensures .is) (w .wide .ensures .0) in
     f .1 .there
 
 -- src/checks.rt:42:1
@@ -64,7 +61,7 @@ returns c =
     let t = w .before .before in
     let s = t .before in
     let f = first-read (s .args .rows .now) (s .args .into .now) (s .args .i) (t .to-at .result) (w .wide .result)
-        (s .pre .0) (s .pre .1) (s .pre .2) (t .to-at .ensures .is) (w .wide .ensures .0) in
+    (s .pre .0) (s .pre .1) (s .pre .2) (t .to-at .ensures .is) (w .wide .ensures .0) in
     differs-mark (s .args .rows .now) (s .args .i) (c .before .code-at .result) (c .code-at2 .result)
     (w .wide .result - 1) (f .1) (c .before .code-at .ensures .is) (c .code-at2 .ensures .is)
 

@@ -1,3 +1,4 @@
+-- The test of one row for LOOSE, by the mark of its from. Assumes nothing.
 use native.Mathlib.Omega.{arith}
 use Rattle.paper.specs.Rows.{rows-in}
 use Rattle.rows.specs.Places.{row-at}

@@ -1,7 +1,8 @@
-use mathlib.Core.Path.{_≡_, refl, sym, ap, _∙_}
-use Prim.Native.Nat.{ℕ, _+_, _-_, _/_, _≤_, _<_}
+-- The array holds, once row i and those after it are counted, how many of them lead into each state. Assumes nothing.
+use mathlib.Core.Path.{_≡_}
+use Prim.Native.Nat.{_-_, _/_, _≤_}
 use native.Mathlib.Omega.{arith}
-use lib.ListN.{length, getD}
+use lib.ListN.{length}
 use Rattle.paper.specs.Checks.{rows-into}
 use Rattle.rows.specs.Places.{rest}
 use Rattle.ruled.specs.Into.{Holds}
@@ -72,10 +73,11 @@ loop-again c =
     let t = c .before in
     let l = t .before .before in
     let i = l .loop .i - 1 in
-    let f = bound (l .before .pre .0) i (omega arith) in
-    (omega arith,
+    let f = bound (l .before .pre .0) i (omega arith) in (
+      omega arith,
       count-row (l .before .args .rows .now) (l .loop .counts) i (l .loop .i) (t .to-at .result) (omega arith)
-      (omega arith) (l .loop .inv .1) (t .to-at .ensures .is) (omega (arith, f .to, t .to-at .ensures)))
+          (omega arith) (l .loop .inv .1) (t .to-at .ensures .is) (omega (arith, f .to, t .to-at .ensures)),
+    )
 
 -- src/counts.rt:14:1
 returns : tie.Need-returns Inv-loop μ-loop

@@ -1,7 +1,8 @@
-use mathlib.Core.Path.{_≡_, refl, sym, ap, _∙_}
-use Prim.Native.Nat.{ℕ, _+_, _-_, _/_, _≤_, _<_}
+-- The array holds the states of row i and those after it, and n counts them. Assumes nothing.
+use mathlib.Core.Path.{_≡_, ap, _∙_}
+use Prim.Native.Nat.{ℕ, _+_, _-_, _*_, _/_, _≤_, _<_}
 use native.Mathlib.Omega.{arith}
-use lib.ListN.{length, getD}
+use lib.ListN.{length}
 use Rattle.paper.specs.Rows.{states}
 use Rattle.rows.specs.Places.{rest}
 use Rattle.ruled.specs.Into.{Holds}
@@ -65,15 +66,22 @@ loop-again c =
     let t = c .before .before in
     let l = t .before .before in
     let s = l .before in
+    let ns = s .args .rows .now in
     let i = l .loop .i - 1 in
+    let to = t .to-at .result in
+    let new = c .enter .last .0 in
+    let h = l .loop .inv .2 in
+    let q = t .to-at .ensures .is in
     let f = bound (s .pre .0) i (omega arith) in
-    let b : t .to-at .result < 1024 = omega (arith, f .to, t .to-at .ensures) in
-    (omega arith, omega (arith, c .enter .ensures .fresh),
-      see-row (s .args .rows .now) i (omega arith) (l .loop .seen) (c .enter .last .0) (l .loop .i)
-      (t .to-at .result) (c .enter .result) (omega arith) (l .loop .inv .2) (t .to-at .ensures .is) b (c .enter .ensures),
-      see-count (s .args .rows .now) i (omega arith) (l .loop .seen) (c .enter .last .0) (l .loop .i)
-      (t .to-at .result) (c .enter .result) (omega arith) (l .loop .inv .2) (t .to-at .ensures .is) b (c .enter .ensures)
-      (l .loop .n) (l .loop .inv .3))
+    let b : to < 1024 = omega (arith, f .to, t .to-at .ensures) in
+    let d = c .enter .ensures in
+    let e : i + 1 ≡ l .loop .i = omega arith in
+    let k : i * 4 + 3 < length ns = omega arith in (
+      omega arith,
+      omega (arith, d .fresh),
+      see-row ns i k (l .loop .seen) new (l .loop .i) to (c .enter .result) e h q b d,
+      see-count ns i k (l .loop .seen) new (l .loop .i) to (c .enter .result) e h q b d (l .loop .n) (l .loop .inv .3),
+    )
 
 -- src/counts.rt:67:1
 returns : tie.Need-returns Inv-loop μ-loop

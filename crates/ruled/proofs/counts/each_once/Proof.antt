@@ -1,7 +1,8 @@
+-- The states above i have one row each. Assumes nothing.
 use mathlib.Core.Path.{_≡_, refl, sym, ap, _∙_}
-use Prim.Native.Nat.{ℕ, _+_, _-_, _/_, _≤_, _<_}
+use Prim.Native.Nat.{_/_, _≤_}
 use native.Mathlib.Omega.{arith}
-use lib.ListN.{length, getD}
+use lib.ListN.{length}
 use Rattle.paper.specs.Rows.{rows-in}
 use Rattle.paper.specs.Checks.{each-once}
 use Rattle.ruled.proofs.Once.{once-next, once-fails, once-zero}
@@ -35,7 +36,7 @@ returns c =
     let l = c .before .before .before in
     let s = l .before in
     sym (l .loop .inv .1 ∙ once-fails (s .args .rows .now) (s .args .counts .now) (s .pre .1) (l .loop .i)
-      (omega arith) (omega arith) (c .if1 .taken))
+    (omega arith) (omega arith) (c .if1 .taken))
 
 -- src/counts.rt:36:9
 sub-i : tie.Need-sub-i Inv-loop μ-loop
@@ -49,9 +50,11 @@ loop-less c = omega arith
 loop-again : tie.Need-loop-again Inv-loop μ-loop
 loop-again c =
     let l = c .before .before .before in
-    let s = l .before in
-    (omega arith, l .loop .inv .1 ∙ once-next (s .args .rows .now) (s .args .counts .now) (s .pre .1) (l .loop .i)
-      (omega arith) (omega arith) (c .if1 .left))
+    let s = l .before in (
+      omega arith,
+      l .loop .inv .1 ∙ once-next (s .args .rows .now) (s .args .counts .now) (s .pre .1) (l .loop .i)
+          (omega arith) (omega arith) (c .if1 .left),
+    )
 
 -- src/counts.rt:27:1
 returns-2 : tie.Need-returns-2 Inv-loop μ-loop

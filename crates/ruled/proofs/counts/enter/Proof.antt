@@ -1,3 +1,4 @@
+-- A state that was entered before stays as it was. Assumes nothing.
 use Rattle.ruled.proofs.Seen.{entered-before}
 use borrow.Author.Needs.{needs}
 use Rattle.ruled.proofs.counts.enter.Statement.{statement}

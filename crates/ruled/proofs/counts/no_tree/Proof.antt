@@ -1,3 +1,4 @@
+-- More rows than states are no tree; else the counts decide. Assumes nothing.
 use Rattle.ruled.proofs.Arrays.{clear}
 use Rattle.ruled.proofs.Once.{many, tree-as}
 use borrow.Author.Needs.{needs}

@@ -1,3 +1,4 @@
+-- The count starts with no state seen. Assumes nothing.
 use Rattle.ruled.proofs.Arrays.{clear}
 use borrow.Author.Needs.{needs}
 use Rattle.ruled.proofs.counts.state_count.Statement.{statement}

@@ -1,11 +1,9 @@
-use mathlib.Core.Path.{_≡_, refl, sym, ap, _∙_}
-use mathlib.Core.List.{List}
-use Prim.Native.Nat.{ℕ, suc, _+_, _-_, _/_, _≤_, _<_}
+-- The array holds, once row i and those after it are marked, the first of them into each state. Assumes nothing.
+use mathlib.Core.Path.{_≡_}
+use Prim.Native.Nat.{_-_, _/_, _≤_}
 use native.Mathlib.Omega.{arith}
-use native.Mathlib.Numerals.{add-one}
-use lib.ListN.{length, set}
-use borrow.Author.Needs.{needs}
-use Rattle.rows.specs.Places.{row-at, rest}
+use lib.ListN.{length}
+use Rattle.rows.specs.Places.{rest}
 use Rattle.ruled.specs.Into.{into-from, Holds}
 use Rattle.ruled.proofs.Arrays.{holds-as, bound}
 use Rattle.ruled.proofs.Firsts.{into-end, mark-row}
@@ -69,10 +67,11 @@ loop-again c =
     let l = c .before .before in
     let i = l .loop .i - 1 in
     let f = bound (l .before .pre .0) i (omega arith) in
-    let ns = l .before .args .rows .now in
-    (omega arith,
+    let ns = l .before .args .rows .now in (
+      omega arith,
       mark-row ns (l .loop .into) i (l .loop .i) (c .to-at .result) (omega arith) (omega arith)
-      (l .loop .inv .1) (c .to-at .ensures .is) (omega (arith, f .to, c .to-at .ensures)))
+          (l .loop .inv .1) (c .to-at .ensures .is) (omega (arith, f .to, c .to-at .ensures)),
+    )
 
 -- src/into.rt:10:1
 returns : tie.Need-returns Inv-loop μ-loop

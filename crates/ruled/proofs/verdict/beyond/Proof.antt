@@ -1,4 +1,5 @@
-use mathlib.Core.Path.{_≡_, refl, sym, _∙_}
+-- The verdict is that of 4, then 5, then 6. Assumes nothing.
+use mathlib.Core.Path.{refl, sym, _∙_}
 use Rattle.paper.specs.declared.Refusal.the-variants.{Shape, Loose, Split}
 use Rattle.rows.proofs.Judged.{done, refuses, next-check}
 use Rattle.ruled.proofs.Arrays.{clear}

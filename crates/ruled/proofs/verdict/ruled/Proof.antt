@@ -1,9 +1,10 @@
+-- The verdict of 2 and 3 stands where it refuses; else that of 4 to 6 decides. Assumes nothing.
 use Rattle.paper.specs.Rows.{table}
 use Rattle.paper.specs.Checks.{plain}
 use Rattle.rows.proofs.Judged.{plain-passed}
 use Rattle.ruled.specs.Beyond.{beyond}
-use Rattle.ruled.proofs.Judging.{judges-stop, judges-on, passed-on, beyond-rows}
-use Rattle.ruled.proofs.Passes.{plain-fits}
+use Rattle.ruled.proofs.Judging.{judges-stop, judges-on, as-pass, passed-on, beyond-rows}
+use Rattle.ruled.proofs.Passes.{fitting}
 use borrow.Author.Needs.{needs}
 use Rattle.ruled.proofs.verdict.ruled.Statement.{statement}
 use Rattle.ruled.proofs.verdict.ruled.Tie as tie
@@ -30,7 +31,8 @@ returns c =
     let s = v .before in
     let a = s .args in
     let j = passed-on plain (a .prod0) (a .k) (a .rows .now) (v .plain .result) (s .fits .prod0) (v .plain .ensures) in
-    judges-stop (beyond (table (a .prod0) (a .k) (a .rows .now))) j (c .enum-told2 .given .0 .0) (c .enum-told2 .given .1)
+    let t = table (a .prod0) (a .k) (a .rows .now) in
+    judges-stop (beyond t) j (c .enum-told2 .given .0 .0) (c .enum-told2 .given .1)
 
 -- src/verdict.rt:47:5
 beyond-requires : tie.Need-beyond-requires
@@ -38,7 +40,8 @@ beyond-requires c κs =
     let v = c .before .before in
     let s = v .before in
     let a = s .args in
-    ?
+    let j = passed-on plain (a .prod0) (a .k) (a .rows .now) (v .plain .result) (s .fits .prod0) (v .plain .ensures) in
+    fitting (plain-passed (a .prod0) (a .k) (a .rows .now) (as-pass (c .enum-told .given .1) j)) (s .pre)
 
 -- src/verdict.rt:39:1
 returns-2 : tie.Need-returns-2

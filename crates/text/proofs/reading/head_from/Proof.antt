@@ -1,3 +1,7 @@
+use mathlib.Core.Path.{_≡_, sym}
+use native.Mathlib.Omega.{arith}
+use lib.Seq.{length-take-le}
+use Rattle.text.proofs.Ended.{head-unended, head-ended}
 use borrow.Author.Needs.{needs}
 use Rattle.text.proofs.reading.head_from.Statement.{statement}
 use Rattle.text.proofs.reading.head_from.Tie as tie
@@ -12,11 +16,13 @@ line-end-requires c κs = search needs
 
 -- src/reading.rt:93:9
 returns : tie.Need-returns
-returns c = ?
+returns c = head-unended _ _ (c .before .line-end .ensures .0) (c .if1 .taken)
 
 -- src/reading.rt:95:13
 slice-aggregate-head-of : tie.Need-slice-aggregate-head-of
-slice-aggregate-head-of c = ?
+slice-aggregate-head-of c =
+    let e = c .before .before .line-end in
+    sym (length-take-le (e .result) (c .before .before .before .before .args .text .now) (e .ensures .2))
 
 -- src/reading.rt:95:27
 add-head-of : tie.Need-add-head-of
@@ -28,7 +34,10 @@ head-of-requires c κs = search needs
 
 -- src/reading.rt:88:1
 returns-2 : tie.Need-returns-2
-returns-2 c = ?
+returns-2 c =
+    let i = c .before .before in
+    let a = i .before .before .before .args in
+    head-ended (a .text .now) _ (i .before .line-end .ensures .0) (i .if1 .left) _ (c .head-of .ensures)
 
 pub head-from-spec : {M : Type 1} → statement M
 head-from-spec =

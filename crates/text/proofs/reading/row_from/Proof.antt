@@ -1,3 +1,4 @@
+use Rattle.text.proofs.Ended.{row-unended, row-ended}
 use borrow.Author.Needs.{needs}
 use Rattle.text.proofs.reading.row_from.Statement.{statement}
 use Rattle.text.proofs.reading.row_from.Tie as tie
@@ -12,7 +13,7 @@ line-end-requires c κs = search needs
 
 -- src/reading.rt:82:9
 returns : tie.Need-returns
-returns c = ?
+returns c = row-unended _ _ _ (c .before .line-end .ensures .0) (c .if1 .taken)
 
 -- src/reading.rt:84:12
 sub-row-of : tie.Need-sub-row-of
@@ -36,7 +37,10 @@ row-of-requires c κs = search needs
 
 -- src/reading.rt:76:1
 returns-2 : tie.Need-returns-2
-returns-2 c = ?
+returns-2 c =
+    let i = c .before .before in
+    let a = i .before .before .before .args in
+    row-ended (a .text .now) (a .at) _ (i .before .line-end .ensures .0) (i .if1 .left) _ (c .row-of .ensures)
 
 pub row-from-spec : {M : Type 1} → statement M
 row-from-spec =

@@ -1,0 +1,4 @@
+// Reads the cases of the fixed list (oracle/list/README.md has their form) and keeps the tally of a replay.
+pub mod number;
+pub mod slice;
+pub mod tally;

@@ -1,0 +1,164 @@
+-- A row put in at the place that the search names is inserted, and the rows stay rising and within bounds.
+-- Assumes nothing.
+use mathlib.Core.Path.{_≡_, refl, ap, sym, _∙_}
+use mathlib.Core.Logic.{⊎-elim}
+use mathlib.Core.Bool.{Bool, true, false, cond, _&&_}
+use mathlib.Core.Option.{Option, none, some}
+use mathlib.Core.List.{List, [], _∷_, _++_, append-assoc}
+use Prim.Native.Nat.{ℕ, zero, suc, _+_, _-_, _*_, _/_, _<_, _≤_}
+use native.Mathlib.Omega.{arith}
+use borrow.Author.Tests.{le-leb, lt-ltb, le-ltb}
+use lib.Dec.{leb, ltb}
+use lib.ListN.{length, getD, take, drop, length-append, length-drop}
+use lib.Seq.{length-take-le, take-take, take-nil, take-at}
+use lib.IntN.{ℤ, pos}
+use Rattle.laws.proofs.Tests.{never}
+use Rattle.laws.proofs.Every.{both, every-true, every-in}
+use Rattle.paper.specs.Rows.{Row, signed, rows-in, numbers, find}
+use Rattle.paper.specs.Checks.{every, row-fits, production-fits, before, rising}
+use Rattle.paper.specs.Build.{insert}
+use Rattle.rows.specs.Places.{row-at, key, uncoded}
+use Rattle.rows.specs.Search.{Passed, Lower}
+use Rattle.rows.proofs.Keys.{before-key, compared}
+use Rattle.rows.proofs.Bracket.{fit-at}
+use Rattle.rows.proofs.Found.{found}
+use Rattle.trees.proofs.Find.{In}
+use Rattle.trees.proofs.Rising.{true-rising, rising-true, rising-insert, in-insert}
+use Rattle.grow.specs.Moves.{inserted}
+use Rattle.grow.specs.Held.{held, Laid, Adding, next, Added}
+use Rattle.grow.proofs.Written.{rows-numbers, numbers-append, numbers-take, numbers-drop,
+  numbers-back, no-row, row-there, held-numbers, held-length}
+
+-- a row goes before the first row that it comes before
+pub insert-at : (r : Row) (rs : List Row) (p : ℕ) → p ≤ length rs
+    → ((k : ℕ) → k < p → before r (getD rs k no-row) ≡ false)
+    → (p < length rs → before r (getD rs p no-row) ≡ true)
+    → insert r rs ≡ take p rs ++ (r ∷ drop p rs)
+unfolding insert
+insert-at r [] zero h b a = refl
+insert-at r [] (suc p) h b a = absurd (omega arith)
+insert-at r (x ∷ rs) zero h b a = rw (a (omega arith))
+insert-at r (x ∷ rs) (suc p) h b a =
+    rw (b 0 (omega arith),
+      insert-at r rs p (omega arith) (λ k l. b (suc k) (omega arith)) (λ l. a (omega arith)))
+
+drop-take : (i n : ℕ) (l : List ℤ) → i ≤ n → drop i (take n l) ≡ take (n - i) (drop i l)
+drop-take zero n l h = let e : n - zero ≡ n = omega arith in rw e
+drop-take (suc i) zero l h = absurd (omega arith)
+drop-take (suc i) (suc n) [] h = sym (take-nil (suc n - suc i))
+drop-take (suc i) (suc n) (x ∷ l) h =
+    let e : suc n - suc i ≡ n - i = omega arith in rw e (drop-take i n l (omega arith))
+
+pub uncoded-fits : (c : ℕ) → c ≤ 65536 → production-fits (uncoded c) ≡ true
+unfolding production-fits
+uncoded-fits zero h = refl
+uncoded-fits (suc q) h = le-leb q 65535 (omega arith)
+
+pub fitting : (r : Row) → r .from ≤ 1023 → r .terminal ≤ 65535 → r .to ≤ 1023 → production-fits (r .production) ≡ true
+    → row-fits r ≡ true
+unfolding row-fits
+fitting r a b c d =
+    both (leb (r .from) 1023 && leb (r .terminal) 65535) _
+      (both _ _ (le-leb _ _ a) (le-leb _ _ b)) (both _ _ (le-leb _ _ c) d)
+
+module _ (buf : List ℤ) (n : ℕ) (l : Laid buf n) where
+  pub room : n * 4 ≤ length buf
+  room = omega (arith, l .few, l .room)
+
+  -- the rows held are written as the numbers there
+  pub written : numbers (held buf n) ≡ take (n * 4) buf
+  written = numbers-back (take (n * 4) buf) n (held-numbers buf n room) (l .passed .fits)
+
+-- numbers that are written rows are these rows, and pass where they do
+pub laid-by : (buf : List ℤ) (n : ℕ) (rs : List Row) → n ≤ 1023 → 4092 ≤ length buf → take (n * 4) buf ≡ numbers rs
+    → every row-fits rs ≡ true → rising rs ≡ true → Laid buf n
+laid-by buf n rs f m e a b =
+    let h : rows-in (take (n * 4) buf) ≡ rs = ap rows-in e ∙ rows-numbers rs in
+    record { few = f; room = m; passed = record { fits = rw h a; rises = rw h b } }
+
+module _ (buf : List ℤ) (n i s t c : ℕ) (a : Adding buf n i s t c) where
+  abbrev ns : List ℤ
+  ns = take (n * 4) buf
+
+  abbrev rs : List Row
+  rs = rows-in (take (n * 4) buf)
+
+  abbrev r : Row
+  r = next n s t c
+
+  numbers-long : length ns ≡ n * 4
+  numbers-long = held-numbers buf n (room buf n (a .laid))
+
+  place-within : i ≤ n
+  place-within = omega (arith, a .place .within, numbers-long)
+
+  -- by their keys the rows before the place are lower, and the row there is higher
+  row-of : (k : ℕ) → k < n → getD rs k no-row ≡ row-at ns k
+  row-of k h = row-there ns k (omega (arith, numbers-long))
+
+  by-key : (k : ℕ) → k < n → before r (getD rs k no-row) ≡ ltb (key r) (key (row-at ns k))
+  by-key k h =
+      let m : row-at ns k .terminal ≤ 65535 = fit-at (a .laid .passed) k (omega (arith, numbers-long)) .terminal in
+      ap (before r) (row-of k h) ∙ before-key r (row-at ns k) (a .terminal) m
+
+  lower : (k : ℕ) → k < i → before r (getD rs k no-row) ≡ false
+  lower k h =
+      let m : k < n = omega (arith, place-within) in
+      let q : key (row-at ns k) ≤ key r = omega (arith, a .place .below k h) in
+      by-key k m ∙ le-ltb (key r) (key (row-at ns k)) q
+
+  -- the row there does not have the key itself
+  apart : i < n → key r ≡ key (row-at ns i) → ⊥
+  apart h e =
+      let l : i < length ns / 4 = omega (arith, numbers-long) in
+      never (sym (a .new) ∙ found ns s t i (a .place) (a .laid .passed) (a .terminal) l (sym e))
+
+  higher : i < n → before r (getD rs i no-row) ≡ true
+  higher h =
+      let q : s * 65536 + t ≤ key (row-at ns i) = a .place .above i (omega arith) (omega (arith, numbers-long)) in
+      let m : key r < key (row-at ns i) = above (key r) (key (row-at ns i)) q (apart h) in
+      by-key i h ∙ lt-ltb (key r) (key (row-at ns i)) m
+    where
+      above : (x y : ℕ) → x ≤ y → (x ≡ y → ⊥) → x < y
+      above x y q d = compared x y (λ z. z) (λ z. absurd (d z)) (λ z. absurd (omega arith))
+
+  split : insert r rs ≡ take i rs ++ (r ∷ drop i rs)
+  split =
+      let m : length rs ≡ n = held-length buf n (room buf n (a .laid)) in
+      insert-at r rs i (omega (arith, place-within)) lower (λ h. higher (omega arith))
+
+  module _ (new : List ℤ)
+      (e : new ≡ inserted buf n i (pos s) (pos t) (pos (suc n)) (signed (uncoded c)))
+      (same : length new ≡ length buf) where
+    abbrev row : List ℤ
+    row = pos s ∷ pos t ∷ pos (suc n) ∷ signed (uncoded c) ∷ drop (i * 4) ns
+
+    cut : new ≡ (take (i * 4) ns ++ row) ++ drop (n * 4 + 4) buf
+    unfolding inserted
+    cut =
+        let l : i * 4 ≤ n * 4 = omega (arith, place-within) in
+        e ∙ rw (← take-take (i * 4) (n * 4) buf l, ← drop-take (i * 4) (n * 4) buf l)
+          (sym (append-assoc (take (i * 4) ns) row (drop (n * 4 + 4) buf)))
+
+    pub now-written : take (suc n * 4) new ≡ numbers (insert r rs)
+    now-written =
+        let b : length (take (i * 4) ns ++ row) ≡ suc n * 4 =
+            omega (arith, length-append (take (i * 4) ns) row, length-take-le (i * 4) ns (omega (arith, numbers-long, place-within)),
+              length-drop (i * 4) ns, numbers-long, place-within) in
+        let w : numbers rs ≡ ns = written buf n (a .laid) in
+        ap (take (suc n * 4)) cut ∙ take-at (take (i * 4) ns ++ row) (drop (n * 4 + 4) buf) (suc n * 4) b
+        ∙ sym (ap numbers split ∙ numbers-append (take i rs) (r ∷ drop i rs)
+          ∙ rw (numbers-take i rs, numbers-drop i rs, w))
+
+    pub added : Added buf new n s t c
+    added = record {
+      laid = laid-by new (suc n) (insert r rs) (omega (arith, a .more)) (omega (arith, a .laid .room)) now-written
+        (every-true row-fits (insert r rs) (λ x j. ⊎-elim (λ k. ap row-fits k ∙ own) (λ k. old x k) (in-insert r rs x j)))
+        (rising-true (insert r rs) (rising-insert r rs (true-rising rs (a .laid .passed .rises)) (a .new)));
+      rows = ap rows-in now-written ∙ rows-numbers (insert r rs);
+    }
+      where
+        own : row-fits r ≡ true
+        own = fitting r (a .from) (a .terminal) (omega (arith, a .more)) (uncoded-fits c (a .production))
+        old : (x : Row) → In x rs → row-fits x ≡ true
+        old x k = every-in row-fits rs (a .laid .passed .fits) x k

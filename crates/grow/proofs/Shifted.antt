@@ -1,0 +1,93 @@
+-- Rows moved up from the last down make room for one, and a row put there is put in.
+-- Assumes nothing.
+use mathlib.Core.Path.{_≡_, refl, ap, sym, _∙_}
+use mathlib.Core.List.{List, [], _∷_, _++_, append-assoc}
+use Prim.Native.Nat.{ℕ, zero, suc, _+_, _-_, _*_, _<_, _≤_}
+use native.Mathlib.Omega.{arith}
+use native.Mathlib.Nat.{sub-self}
+use lib.ListN.{length, getD, take, drop, set, length-append, length-drop, take-append-drop, List·getD-append}
+use lib.Seq.{drop-cons, length-take-le, getD-take, take-append-le, sets-eq, take-take, drop-at}
+use lib.IntN.{ℤ, pos}
+use Rattle.grow.specs.Moves.{over-row, up-row, opened, inserted}
+
+-- four numbers stored one after the other
+pub stored : (l : List ℤ) (i : ℕ) (w x y z : ℤ) → i * 4 + 3 < length l
+    → set (set (set (set l (i * 4) w) (i * 4 + 1) x) (i * 4 + 2) y) (i * 4 + 3) z ≡ over-row l i w x y z
+unfolding over-row
+stored l i w x y z h =
+    let b = i * 4 in
+    let e₁ : b + 1 ≡ suc b = omega arith in
+    let e₂ : b + 2 ≡ suc (suc b) = omega arith in
+    let e₃ : b + 3 ≡ suc (suc (suc b)) = omega arith in
+    let m : b + 4 ≤ length l = omega arith in
+    rw (e₁, e₂, e₃) (sets-eq (w ∷ x ∷ y ∷ z ∷ []) l b m
+      ∙ append-assoc (take b l) (w ∷ x ∷ y ∷ z ∷ []) (drop (b + 4) l))
+
+next : (l : List ℤ) (k m : ℕ) → k < length l → suc k ≡ m → drop k l ≡ getD l k (pos 0) ∷ drop m l
+next l k m h e = drop-cons l k (pos 0) h ∙ rw e
+
+-- a row of numbers that were passed on
+pub over-same : {l m : List ℤ} (i : ℕ) {w x y z a b c d : ℤ} → l ≡ m → w ≡ a → x ≡ b → y ≡ c → z ≡ d
+    → over-row l i w x y z ≡ over-row m i a b c d
+over-same i e p q r s = λ j. over-row (e j) i (p j) (q j) (r j) (s j)
+
+-- the four numbers of row i, and what follows them
+pub row-off : (l : List ℤ) (i : ℕ) → i * 4 + 3 < length l
+    → drop (i * 4) l ≡ getD l (i * 4) (pos 0) ∷ getD l (i * 4 + 1) (pos 0) ∷ getD l (i * 4 + 2) (pos 0)
+      ∷ getD l (i * 4 + 3) (pos 0) ∷ drop (i * 4 + 4) l
+row-off l i h =
+    rw (next l (i * 4) (i * 4 + 1) (omega arith) (omega arith),
+      next l (i * 4 + 1) (i * 4 + 2) (omega arith) (omega arith),
+      next l (i * 4 + 2) (i * 4 + 3) (omega arith) (omega arith),
+      next l (i * 4 + 3) (i * 4 + 4) (omega arith) (omega arith))
+
+-- a row put into a list whose first m numbers are l's, where these end with the row's place
+put-after : (l r : List ℤ) (m i : ℕ) (w x y z : ℤ) → m ≡ i * 4 + 4 → m ≤ length l
+    → over-row (take m l ++ r) i w x y z ≡ take (i * 4) l ++ (w ∷ x ∷ y ∷ z ∷ r)
+unfolding over-row
+put-after l r m i w x y z e h =
+    let lm : length (take m l) ≡ m = length-take-le m l h in
+    let a : take (i * 4) (take m l ++ r) ≡ take (i * 4) l =
+        take-append-le (i * 4) (take m l) r (omega arith) ∙ take-take (i * 4) m l (omega arith) in
+    let b : drop (i * 4 + 4) (take m l ++ r) ≡ r = drop-at (take m l) r (i * 4 + 4) (omega arith) in
+    rw (a, b)
+
+module _ (l : List ℤ) (n : ℕ) (room : n * 4 + 3 < length l) where
+  pub open-none : l ≡ opened l n n
+  unfolding opened
+  open-none = sym (rw sub-self (take-append-drop (n * 4 + 4) l))
+
+  open-read : (k j : ℕ) → k ≤ n → j < k * 4 + 4 → getD (opened l n k) j (pos 0) ≡ getD l j (pos 0)
+  unfolding opened
+  open-read k j h m =
+      List·getD-append (take (k * 4 + 4) l) (take (n * 4 - k * 4) (drop (k * 4) l) ++ drop (n * 4 + 4) l) (pos 0) j
+        (omega (arith, length-take-le (k * 4 + 4) l (omega arith)))
+      ∙ getD-take (k * 4 + 4) l j (pos 0) m
+
+  pub open-step : (k : ℕ) → k < n → up-row (opened l n (k + 1)) k ≡ opened l n k
+  unfolding opened
+  open-step k h =
+      let up : take (n * 4 - k * 4) (drop (k * 4) l)
+            ≡ getD l (k * 4) (pos 0) ∷ getD l (k * 4 + 1) (pos 0) ∷ getD l (k * 4 + 2) (pos 0)
+            ∷ getD l (k * 4 + 3) (pos 0) ∷ take (n * 4 - (k + 1) * 4) (drop ((k + 1) * 4) l) =
+          let s : n * 4 - k * 4 ≡ suc (suc (suc (suc (n * 4 - (k + 1) * 4)))) = omega arith in
+          let t : (k + 1) * 4 ≡ k * 4 + 4 = omega arith in
+          rw (s, t, row-off l k (omega arith)) in
+      let v : (k + 1) * 4 ≡ k * 4 + 4 = omega arith in
+      let a : getD (opened l n (k + 1)) (k * 4) (pos 0) ≡ getD l (k * 4) (pos 0) =
+          open-read (k + 1) (k * 4) (omega arith) (omega arith) in
+      let b : getD (opened l n (k + 1)) (k * 4 + 1) (pos 0) ≡ getD l (k * 4 + 1) (pos 0) =
+          open-read (k + 1) (k * 4 + 1) (omega arith) (omega arith) in
+      let c : getD (opened l n (k + 1)) (k * 4 + 2) (pos 0) ≡ getD l (k * 4 + 2) (pos 0) =
+          open-read (k + 1) (k * 4 + 2) (omega arith) (omega arith) in
+      let d : getD (opened l n (k + 1)) (k * 4 + 3) (pos 0) ≡ getD l (k * 4 + 3) (pos 0) =
+          open-read (k + 1) (k * 4 + 3) (omega arith) (omega arith) in
+      put-after l (take (n * 4 - (k + 1) * 4) (drop ((k + 1) * 4) l) ++ drop (n * 4 + 4) l) ((k + 1) * 4 + 4) (k + 1)
+        _ _ _ _ refl (omega arith)
+      ∙ rw (a, b, c, d, up, v)
+
+  -- the row in the room that was made for it
+  pub fill : (p : ℕ) (w x y z : ℤ) → p ≤ n → over-row (opened l n p) p w x y z ≡ inserted l n p w x y z
+  unfolding opened inserted
+  fill p w x y z h =
+      put-after l (take (n * 4 - p * 4) (drop (p * 4) l) ++ drop (n * 4 + 4) l) (p * 4 + 4) p w x y z refl (omega arith)

@@ -1,0 +1,39 @@
+use mathlib.Core.Path.{ap, _∙_}
+use mathlib.Core.List.{List}
+use lib.IntN.{ℤ}
+use Rattle.rows.proofs.Signed.{same}
+use Rattle.grow.specs.Moves.{over-row, opened}
+use Rattle.grow.proofs.Shifted.{over-same, fill}
+use borrow.Author.Needs.{needs}
+use Rattle.grow.proofs.insert_row.Statement.{statement}
+use Rattle.grow.proofs.insert_row.Tie as tie
+use Rattle.grow.proofs.insert_row.Reads as reads
+use Rattle.grow.proofs.insert_row.Lts as lts
+use Rattle.grow.proofs.open_rows.Reads as open-rows-reads
+use Rattle.grow.proofs.put_row.Reads as put-row-reads
+
+-- src/lib.rt:55:5
+open-rows-requires : tie.Need-open-rows-requires
+open-rows-requires c κs = search needs
+
+-- src/lib.rt:56:5
+put-row-requires : tie.Need-put-row-requires
+put-row-requires c κs = search needs
+
+-- src/lib.rt:51:1
+same-length : tie.Need-same-length
+same-length c = search needs
+
+-- src/lib.rt:51:1
+returns : tie.Need-returns
+returns c =
+    let o = c .before .before .before .before in
+    let s = o .before .before in
+    let a = s .args in
+    c .before .put-row .ensures
+    ∙ over-same (a .p) (o .open-rows .ensures) (same (a .w) (s .fits .w)) (same (a .x) (s .fits .x))
+      (same (a .y) (s .fits .y)) (same (a .z) (s .fits .z))
+    ∙ fill (a .buf .now) (a .n) (s .pre .1) (a .p) (a .w) (a .x) (a .y) (a .z) (s .pre .0)
+
+pub insert-row-spec : {M : Type 1} → statement M
+insert-row-spec = tie.close (tie.spec open-rows-requires put-row-requires same-length returns)

@@ -1,0 +1,55 @@
+-- Rows at the front of an array: what stands there, and what a new row and a new production make of it.
+use mathlib.Core.Path.{_≡_}
+use mathlib.Core.Option.{Option, none, some}
+use mathlib.Core.List.{List, map}
+use Prim.Native.Nat.{ℕ, suc, _+_, _*_, _≤_, _<_}
+use lib.ListN.{length, take}
+use lib.IntN.{ℤ}
+use Rattle.paper.specs.Rows.{Row, rows-in, find}
+use Rattle.paper.specs.Build.{insert}
+use Rattle.rows.specs.Places.{row-at, uncoded}
+use Rattle.rows.specs.Search.{Passed, Lower}
+use Rattle.trees.proofs.Paint.{paint}
+use Rattle.trees.proofs.Tree.{Tree}
+
+-- The first n rows.
+abbrev pub held : List ℤ → ℕ → List Row
+held buf n = rows-in (take (n * 4) buf)
+
+-- Row i of them.
+abbrev pub row-held : List ℤ → ℕ → ℕ → Row
+row-held buf n i = row-at (take (n * 4) buf) i
+
+-- n rows that rise, each within its bounds, at the front of an array with room for 1,023.
+pub record Laid (buf : List ℤ) (n : ℕ) : Type 0 where
+  pub few : n ≤ 1023
+  pub room : 4092 ≤ length buf
+  pub passed : Passed (take (n * 4) buf)
+
+-- A row from s by t to the next state, whose place among the n rows is i.
+pub record Adding (buf : List ℤ) (n i s t code : ℕ) : Type 0 where
+  pub laid : Laid buf n
+  pub more : n < 1023
+  pub from : s ≤ 1023
+  pub terminal : t ≤ 65535
+  pub production : code ≤ 65536
+  pub new : find (held buf n) s t ≡ none
+  pub place : Lower (take (n * 4) buf) (s * 65536 + t) i
+
+abbrev pub next : ℕ → ℕ → ℕ → ℕ → Row
+next n s t code = record { from = s; terminal = t; to = suc n; production = uncoded code }
+
+pub record Added (old new : List ℤ) (n s t code : ℕ) : Type 0 where
+  pub laid : Laid new (suc n)
+  pub rows : held new (suc n) ≡ insert (next n s t code) (held old n)
+
+-- A production for the state that row i of a tree leads to.
+pub record Giving (buf : List ℤ) (n i code : ℕ) : Type 0 where
+  pub laid : Laid buf n
+  pub tree : Tree (held buf n)
+  pub there : i < n
+  pub production : code ≤ 65536
+
+pub record Given (old new : List ℤ) (n i code : ℕ) : Type 0 where
+  pub laid : Laid new n
+  pub rows : held new n ≡ map (paint (row-held old n i .to) (uncoded code)) (held old n)

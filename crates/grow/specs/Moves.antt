@@ -1,0 +1,27 @@
+-- Four numbers at a time: a row overwritten, rows moved up by one, a row put in.
+use mathlib.Core.List.{List, [], _∷_, _++_}
+use Prim.Native.Nat.{ℕ, _+_, _-_, _*_}
+use lib.ListN.{length, getD, take, drop}
+use lib.IntN.{ℤ, pos}
+
+-- Row i is w, x, y, z.
+unfoldable pub over-row : List ℤ → ℕ → ℤ → ℤ → ℤ → ℤ → List ℤ
+over-row l i w x y z = take (i * 4) l ++ (w ∷ x ∷ y ∷ z ∷ drop (i * 4 + 4) l)
+
+-- Row i + 1 is what row i is.
+abbrev pub up-row : List ℤ → ℕ → List ℤ
+up-row l i = over-row l (i + 1)
+    (getD l (i * 4) (pos 0)) (getD l (i * 4 + 1) (pos 0)) (getD l (i * 4 + 2) (pos 0)) (getD l (i * 4 + 3) (pos 0))
+
+-- The rows from p on, of n, stand one row higher; row p stands where it stood as well.
+unfoldable pub opened : List ℤ → ℕ → ℕ → List ℤ
+opened l n p = take (p * 4 + 4) l ++ (take (n * 4 - p * 4) (drop (p * 4) l) ++ drop (n * 4 + 4) l)
+
+-- The row w, x, y, z stands before row p of n.
+unfoldable pub inserted : List ℤ → ℕ → ℕ → ℤ → ℤ → ℤ → ℤ → List ℤ
+inserted l n p w x y z =
+    take (p * 4) l ++ (w ∷ x ∷ y ∷ z ∷ (take (n * 4 - p * 4) (drop (p * 4) l) ++ drop (n * 4 + 4) l))
+
+-- What a slice that held old holds once new stands at its front.
+unfoldable pub front : List ℤ → List ℤ → List ℤ
+front new old = new ++ drop (length new) old
