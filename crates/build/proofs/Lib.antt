@@ -1,1 +1,4 @@
--- (see the files named below)
+pub mod Totals
+pub mod Entered
+pub mod Walked
+pub mod Codes

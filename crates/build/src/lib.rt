@@ -1,1 +1,50 @@
 // Document 01, module 2: build.
+pub mod checks;
+pub mod strings;
+
+use paper::{Making, Production, Refusal};
+use rows::numbers;
+use strings::Table;
+
+ghost use mathlib.Core.Path.{_≡_};
+ghost use lib.ListN.{length};
+ghost use Rattle.paper.specs.Answers.{Makes};
+ghost use Rattle.paper.specs.Build.{within, built, strings, build};
+ghost use Rattle.build.specs.Sane.{Sane};
+
+// The strings in an array of its own, and their rows at the front of the output.
+fn written(production: Production, tokens: &[u16], lengths: &[usize], out: &mut [i32]) -> Making
+    requires { ⌜ Sane (now tokens) (now lengths) (length (now out)) ⌝ }
+    ensures { λ r. ⌜ Makes (within (built (production .0) (strings (now (lengths .entry)) (now (tokens .entry)))))
+        r (now (out .entry)) (now (out .exit)) ⌝ }
+{
+    let mut buf = [0i32; 4096];
+    let made = strings::add_strings(&mut buf, production, tokens, lengths);
+    match made {
+        Table::Full => Making::Refused(Refusal::Full),
+        Table::Rows { rows, code, k } => {
+            grow::copy_front(&buf[..rows * 4], out);
+            Making::Made {
+                prod0: numbers::production_of(code),
+                k,
+                rows,
+                states: rows + 1,
+            }
+        }
+    }
+}
+
+// Build: the checks 1 and 2, then the strings, then 14.
+pub fn build(production: i32, tokens: &[u16], lengths: &[usize], out: &mut [i32]) -> Making
+    ensures { λ r. ⌜ Makes (build production (now (tokens .entry)) (now (lengths .entry)) (length (now (out .entry))))
+        r (now (out .entry)) (now (out .exit)) ⌝ }
+{
+    if checks::lengths(tokens, lengths, out.len()) {
+        return Making::Refused(Refusal::Length);
+    }
+    if checks::range(production, lengths) {
+        return Making::Refused(Refusal::Range);
+    }
+    let q = numbers::natural(production) as u16;
+    written(Production(q), tokens, lengths, out)
+}

@@ -1,4 +1,5 @@
 // Reads the cases of the fixed list (oracle/list/README.md has their form) and keeps the tally of a replay.
+pub mod answer;
 pub mod number;
 pub mod slice;
 pub mod tally;

@@ -10,7 +10,7 @@ use native.Mathlib.Omega.{arith}
 use borrow.Author.Tests.{le-leb, lt-ltb, le-ltb}
 use lib.Dec.{leb, ltb}
 use lib.ListN.{length, getD, take, drop, length-append, length-drop}
-use lib.Seq.{length-take-le, take-take, take-nil, take-at}
+use lib.Seq.{length-take-le, take-take, take-nil, take-at, getD-at}
 use lib.IntN.{ℤ, pos}
 use Rattle.laws.proofs.Tests.{never}
 use Rattle.laws.proofs.Every.{both, every-true, every-in}
@@ -27,7 +27,7 @@ use Rattle.trees.proofs.Rising.{true-rising, rising-true, rising-insert, in-ins
 use Rattle.grow.specs.Moves.{inserted}
 use Rattle.grow.specs.Held.{held, Laid, Adding, next, Added}
 use Rattle.grow.proofs.Written.{rows-numbers, numbers-append, numbers-take, numbers-drop,
-  numbers-back, no-row, row-there, held-numbers, held-length}
+  numbers-back, no-row, row-there, held-numbers, held-length, held-at}
 
 -- a row goes before the first row that it comes before
 pub insert-at : (r : Row) (rs : List Row) (p : ℕ) → p ≤ length rs
@@ -89,7 +89,7 @@ module _ (buf : List ℤ) (n i s t c : ℕ) (a : Adding buf n i s t c) where
   numbers-long : length ns ≡ n * 4
   numbers-long = held-numbers buf n (room buf n (a .laid))
 
-  place-within : i ≤ n
+  pub place-within : i ≤ n
   place-within = omega (arith, a .place .within, numbers-long)
 
   -- by their keys the rows before the place are lower, and the row there is higher
@@ -122,9 +122,12 @@ module _ (buf : List ℤ) (n i s t c : ℕ) (a : Adding buf n i s t c) where
       above : (x y : ℕ) → x ≤ y → (x ≡ y → ⊥) → x < y
       above x y q d = compared x y (λ z. z) (λ z. absurd (d z)) (λ z. absurd (omega arith))
 
+  rows-long : length rs ≡ n
+  rows-long = held-length buf n (room buf n (a .laid))
+
   split : insert r rs ≡ take i rs ++ (r ∷ drop i rs)
   split =
-      let m : length rs ≡ n = held-length buf n (room buf n (a .laid)) in
+      let m : length rs ≡ n = rows-long in
       insert-at r rs i (omega (arith, place-within)) lower (λ h. higher (omega arith))
 
   module _ (new : List ℤ)
@@ -150,8 +153,12 @@ module _ (buf : List ℤ) (n i s t c : ℕ) (a : Adding buf n i s t c) where
         ∙ sym (ap numbers split ∙ numbers-append (take i rs) (r ∷ drop i rs)
           ∙ rw (numbers-take i rs, numbers-drop i rs, w))
 
-    pub added : Added buf new n s t c
+    pub added : Added buf new n i s t c
     added = record {
+      there = omega (arith, place-within);
+      at = sym (held-at new (suc n) (omega (arith, a .more, a .laid .room)) i (omega (arith, place-within)))
+        ∙ ap (λ (l : List Row). getD l i no-row) (ap rows-in now-written ∙ rows-numbers (insert r rs) ∙ split)
+        ∙ getD-at (take i rs) r (drop i rs) no-row i (length-take-le i rs (omega (arith, place-within, rows-long)));
       laid = laid-by new (suc n) (insert r rs) (omega (arith, a .more)) (omega (arith, a .laid .room)) now-written
         (every-true row-fits (insert r rs) (λ x j. ⊎-elim (λ k. ap row-fits k ∙ own) (λ k. old x k) (in-insert r rs x j)))
         (rising-true (insert r rs) (rising-insert r rs (true-rising rs (a .laid .passed .rises)) (a .new)));

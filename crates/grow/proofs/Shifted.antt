@@ -8,6 +8,11 @@ use native.Mathlib.Nat.{sub-self}
 use lib.ListN.{length, getD, take, drop, set, length-append, length-drop, take-append-drop, List·getD-append}
 use lib.Seq.{drop-cons, length-take-le, getD-take, take-append-le, sets-eq, take-take, drop-at}
 use lib.IntN.{ℤ, pos}
+use mir.Syntax.{w32}
+use mir.Val.{toZ, ofZ}
+use Rattle.paper.specs.Rows.{signed}
+use Rattle.rows.specs.Places.{uncoded}
+use Rattle.rows.proofs.Signed.{same}
 use Rattle.grow.specs.Moves.{over-row, up-row, opened, inserted}
 
 -- four numbers stored one after the other
@@ -91,3 +96,18 @@ module _ (l : List ℤ) (n : ℕ) (room : n * 4 + 3 < length l) where
   unfolding opened inserted
   fill p w x y z h =
       put-after l (take (n * 4 - p * 4) (drop (p * 4) l) ++ drop (n * 4 + 4) l) (p * 4 + 4) p w x y z refl (omega arith)
+
+pub insert-same : (l : List ℤ) (n p : ℕ) {w x y z a b c d : ℤ} → w ≡ a → x ≡ b → y ≡ c → z ≡ d
+    → inserted l n p w x y z ≡ inserted l n p a b c d
+insert-same l n p q r s t = λ j. inserted l n p (q j) (r j) (s j) (t j)
+
+-- a number that was made and passed on
+pub passed-number : (r : ℤ) (n : ℕ) → r ≡ pos n → n ≤ 65535 → toZ w32 (ofZ w32 r) ≡ pos n
+passed-number r n e h = ap (λ (z : ℤ). toZ w32 (ofZ w32 z)) e ∙ same (pos n) (record { sfits = omega arith })
+
+pub passed-production : (r : ℤ) (c : ℕ) → r ≡ signed (uncoded c) → c ≤ 65536 → toZ w32 (ofZ w32 r) ≡ signed (uncoded c)
+passed-production r c e h = ap (λ (z : ℤ). toZ w32 (ofZ w32 z)) e ∙ go c h
+  where
+    go : (c : ℕ) → c ≤ 65536 → toZ w32 (ofZ w32 (signed (uncoded c))) ≡ signed (uncoded c)
+    go zero h = refl
+    go (suc q) h = same (pos q) (record { sfits = omega arith })

@@ -39,8 +39,10 @@ pub record Adding (buf : List ℤ) (n i s t code : ℕ) : Type 0 where
 abbrev pub next : ℕ → ℕ → ℕ → ℕ → Row
 next n s t code = record { from = s; terminal = t; to = suc n; production = uncoded code }
 
-pub record Added (old new : List ℤ) (n s t code : ℕ) : Type 0 where
+pub record Added (old new : List ℤ) (n i s t code : ℕ) : Type 0 where
   pub laid : Laid new (suc n)
+  pub there : i < suc n
+  pub at : row-held new (suc n) i ≡ next n s t code
   pub rows : held new (suc n) ≡ insert (next n s t code) (held old n)
 
 -- A production for the state that row i of a tree leads to.

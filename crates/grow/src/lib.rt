@@ -1,16 +1,12 @@
 // Rows that grow: a row put where it belongs, or given a production, in a lent array.
+use paper::{State, Terminal};
 use rows::numbers;
 
 ghost use mathlib.Core.Path.{_≡_};
-ghost use mathlib.Core.Option.{none};
-ghost use mathlib.Core.List.{_++_};
 ghost use Prim.Native.Nat.{_+_, _*_, _<_, _≤_};
-ghost use lib.ListN.{length, getD, take, drop};
-ghost use lib.IntN.{ℤ, pos};
-ghost use Rattle.paper.specs.Rows.{find};
-ghost use Rattle.rows.specs.Search.{Lower};
+ghost use lib.ListN.{length};
 ghost use Rattle.grow.specs.Moves.{over-row, up-row, opened, inserted, front};
-ghost use Rattle.grow.specs.Held.{held, Laid, Adding, Added, Giving, Given};
+ghost use Rattle.grow.specs.Held.{Adding, Added, Giving, Given};
 
 // Row i becomes four numbers.
 fn put_row(buf: &mut [i32], i: usize, w: i32, x: i32, y: i32, z: i32)
@@ -57,12 +53,12 @@ fn insert_row(buf: &mut [i32], n: usize, p: usize, w: i32, x: i32, y: i32, z: i3
 }
 
 // The row from s by t to the next state, with the production of a code, is put in at its place i among n rows.
-pub fn add(buf: &mut [i32], n: usize, i: usize, s: usize, t: usize, code: usize)
-    requires { ⌜ Adding (now buf) n i s t code ⌝ }
-    ensures { λ _. ⌜ Added (now (buf .entry)) (now (buf .exit)) n s t code ⌝ }
+pub fn add(buf: &mut [i32], n: usize, i: usize, s: State, t: Terminal, code: usize)
+    requires { ⌜ Adding (now buf) n i (s .0) (t .0) code ⌝ }
+    ensures { λ _. ⌜ Added (now (buf .entry)) (now (buf .exit)) n i (s .0) (t .0) code ⌝ }
 {
-    let from = numbers::number_of(s);
-    let terminal = numbers::number_of(t);
+    let from = numbers::number_of(s.0 as usize);
+    let terminal = numbers::number_of(t.0 as usize);
     let to = numbers::number_of(n + 1);
     let production = numbers::production_of(code);
     insert_row(buf, n, i, from, terminal, to, production);

@@ -1,9 +1,9 @@
 -- Strings joined and cut again by their lengths are the same strings. Assumes nothing.
-use mathlib.Core.Path.{_≡_, refl, sym, _∙_, ap, ap₂}
-use mathlib.Core.List.{List, [], _∷_, _++_, map}
-use Prim.Native.Nat.{ℕ, _+_}
+use mathlib.Core.Path.{_≡_, refl, _∙_, ap, ap₂}
+use mathlib.Core.List.{List, [], _∷_, map}
+use Prim.Native.Nat.{ℕ}
 use native.Mathlib.Omega.{arith}
-use lib.ListN.{length, take, drop, length-append}
+use lib.ListN.{length, length-append}
 use lib.Seq.{take-at, drop-at}
 use Rattle.paper.specs.Build.{strings, sum}
 use Rattle.paper.specs.Cases.{joined}
@@ -13,7 +13,7 @@ unfolding strings joined
 strings-joined [] = refl
 strings-joined (σ ∷ σs) =
     ap₂ (λ (x : List ℕ) (y : List (List ℕ)). x ∷ y) (take-at σ (joined σs) (length σ) refl)
-      (ap (strings (map (λ σ. length σ) σs)) (drop-at σ (joined σs) (length σ) refl) ∙ strings-joined σs)
+    (ap (strings (map (λ σ. length σ) σs)) (drop-at σ (joined σs) (length σ) refl) ∙ strings-joined σs)
 
 pub sum-joined : (σs : List (List ℕ)) → sum (map (λ σ. length σ) σs) ≡ length (joined σs)
 unfolding sum joined

@@ -2,12 +2,12 @@
 use mathlib.Core.Path.{_≡_, refl, ap, _∙_}
 use mathlib.Core.Bool.{false}
 use mathlib.Core.Option.{Option, none, some}
-use mathlib.Core.List.{List, [], _∷_}
+use mathlib.Core.List.{List, [], _∷_, _++_}
 use Prim.Native.Nat.{ℕ, _*_, _%_, _≤_}
 use native.Mathlib.Omega.{arith}
 use native.Mathlib.Nat.{mul-mod-right}
 use lib.ListN.{length}
-use lib.Dec.{eqb, ltb}
+use lib.IntN.{ℤ, pos}
 use borrow.Author.Tests.{eq-eqb, le-ltb}
 use Rattle.paper.specs.Rows.{Row, Table, accepting, signed, rows-in, numbers, table}
 use Rattle.paper.specs.Checks.{row-slice}
@@ -39,3 +39,9 @@ slice-numbers rs l =
     let four : length (numbers rs) % 4 ≡ 0 = ap (λ (n : ℕ). n % 4) (length-numbers rs) ∙ mul-mod-right 4 (length rs) in
     let short : length (numbers rs) ≤ 16384 = omega (arith, length-numbers rs) in
     rw (eq-eqb (length (numbers rs) % 4) 0 four, le-ltb 16384 (length (numbers rs)) short)
+
+pub numbers-append : (xs ys : List Row) → numbers (xs ++ ys) ≡ numbers xs ++ numbers ys
+numbers-append [] ys = refl
+numbers-append (r ∷ rs) ys = ap
+    (λ (z : List ℤ). pos (r .from) ∷ pos (r .terminal) ∷ pos (r .to) ∷ signed (r .production) ∷ z)
+    (numbers-append rs ys)

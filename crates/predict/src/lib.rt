@@ -44,11 +44,17 @@ impl Walk {
         requires { ⌜ Passed (now rows) × (self .entered < 4294967296) ⌝ }
         ensures { λ r. ⌜ seen r ≡ step (rows-in (now (rows .entry))) (token .0) (seen self) ⌝ }
     {
-        let s = self.state;
-        let found = rows::search::find(rows, s.0 as usize, token.0 as usize);
+        let state = self.state;
+        let entered = self.entered;
+        let last = self.last;
+        let found = rows::search::find(rows, state.0 as usize, token.0 as usize);
         match found {
             Found::At(i) => self.enter(rows, i),
-            Found::Missing(_) => self,
+            Found::Missing(_) => Walk {
+                state,
+                entered,
+                last,
+            },
         }
     }
 
@@ -57,20 +63,21 @@ impl Walk {
         requires { ⌜ Passed (now rows) × (i < length (now rows) / 4) × (self .entered < 4294967296) ⌝ }
         ensures { λ r. ⌜ seen r ≡ entering (row-at (now (rows .entry)) i) (seen self) ⌝ }
     {
+        let entered = self.entered;
+        let last = self.last;
         let to = numbers::to_at(rows, i) as u16;
         let p = numbers::code_at(rows, i);
-        let last = self.last;
         if p == 0 {
             return Walk {
                 state: State(to),
-                entered: self.entered + 1,
+                entered: entered + 1,
                 last,
             };
         }
         let q = (p - 1) as u16;
         Walk {
             state: State(to),
-            entered: self.entered + 1,
+            entered: entered + 1,
             last: Reached::Accepting(Production(q)),
         }
     }

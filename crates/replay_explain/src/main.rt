@@ -16,7 +16,7 @@ fn main() {
 
 // More turns than the list has cases.
 fn replay(bytes: &mut [u8], rows: &mut [i32], tokens: &mut [u16], counts: &mut [usize]) {
-    let mut turns = 1000000;
+    let mut turns: usize = 1000000;
     while turns > 0 && one(bytes, rows, tokens, counts) {
         turns -= 1;
     }
@@ -39,10 +39,10 @@ fn asked(bytes: &[u8], rows: &mut [i32], tokens: &mut [u16]) -> Outcome {
     let n = number::unsigned(bytes, k.next);
     let behind = slice::numbers(bytes, n.next, n.value, rows);
     let m = number::unsigned(bytes, behind);
-    let answer = slice::tokens(bytes, m.next, m.value, tokens);
+    let behind = slice::tokens(bytes, m.next, m.value, tokens);
     both(
         bytes,
-        answer,
+        behind,
         number::signed(prod0.value),
         k.value,
         slice::front_numbers(rows, n.value),

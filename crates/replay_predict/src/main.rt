@@ -1,9 +1,9 @@
 // Replays the cases of predict: each is asked of the proved call, and its answer is compared with the list's.
+use cases::answer;
 use cases::number;
 use cases::slice;
 use cases::tally;
 use cases::tally::Outcome;
-use paper::Mode;
 use paper::Prediction;
 
 fn main() {
@@ -17,7 +17,7 @@ fn main() {
 
 // More turns than the list has cases.
 fn replay(bytes: &mut [u8], rows: &mut [i32], tokens: &mut [u16], counts: &mut [usize]) {
-    let mut turns = 1000000;
+    let mut turns: usize = 1000000;
     while turns > 0 && one(bytes, rows, tokens, counts) {
         turns -= 1;
     }
@@ -42,24 +42,16 @@ fn asked(bytes: &[u8], rows: &mut [i32], tokens: &mut [u16]) -> Outcome {
     let behind = slice::numbers(bytes, n.next, n.value, rows);
     let stream = number::unsigned(bytes, behind);
     let m = number::unsigned(bytes, stream.next);
-    let answer = slice::tokens(bytes, m.next, m.value, tokens);
+    let behind = slice::tokens(bytes, m.next, m.value, tokens);
     let prediction = predict::predict(
-        named(mode.value),
+        answer::mode(mode.value),
         number::signed(prod0.value),
         k.value,
         slice::front_numbers(rows, n.value),
         stream.value,
         slice::front_tokens(tokens, m.value),
     );
-    compared(bytes, answer, prediction)
-}
-
-fn named(mode: usize) -> Mode {
-    if mode == 0 {
-        Mode::Archive
-    } else {
-        Mode::Intake
-    }
+    compared(bytes, behind, prediction)
 }
 
 fn compared(bytes: &[u8], place: usize, prediction: Prediction) -> Outcome {

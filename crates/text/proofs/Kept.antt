@@ -2,8 +2,9 @@
 use mathlib.Core.Path.{_≡_, refl, ap, sym, _∙_}
 use mathlib.Core.Bool.{Bool, true, false, _&&_}
 use mathlib.Core.List.{List, [], _∷_, _++_, append-assoc}
-use Prim.Native.Nat.{ℕ, zero, suc, _+_, _≤_}
+use Prim.Native.Nat.{ℕ, zero, suc, _+_, _*_, _≤_}
 use native.Mathlib.Omega.{arith}
+use lib.ListN.{length}
 use lib.IntN.{ℤ, pos, negsuc}
 use Rattle.paper.specs.Rows.{Row, natural, accepting, signed, rows-in, numbers}
 use Rattle.paper.specs.Checks.{every, row-fits}
@@ -48,3 +49,18 @@ lines-kept (f ∷ t ∷ g ∷ p ∷ ns) e =
     append-assoc (write row-form (row-numbers r)) (10 ∷ []) (rows-text (rows-in ns))
     ∙ ap (λ (x : List ℤ). write row-form x ++ (10 ∷ rows-text (rows-in ns))) k
     ∙ ap (λ (x : List ℕ). write row-form (f ∷ t ∷ g ∷ p ∷ []) ++ (10 ∷ x)) (lines-kept ns (h .1))
+
+-- the numbers of whole rows
+pub numbers-kept : (m : ℕ) (ns : List ℤ) → length ns ≡ m * 4 → every row-fits (rows-in ns) ≡ true →
+    numbers (rows-in ns) ≡ ns
+unfolding every
+numbers-kept m [] n e = refl
+numbers-kept zero (f ∷ ns) n e = absurd (omega arith)
+numbers-kept (suc m) (f ∷ []) n e = absurd (omega arith)
+numbers-kept (suc m) (f ∷ t ∷ []) n e = absurd (omega arith)
+numbers-kept (suc m) (f ∷ t ∷ g ∷ []) n e = absurd (omega arith)
+numbers-kept (suc m) (f ∷ t ∷ g ∷ p ∷ ns) n e =
+    let r : Row = record { from = natural f; terminal = natural t; to = natural g; production = accepting p } in
+    let h = both (row-fits r) (every row-fits (rows-in ns)) e in
+    ap (λ (x : List ℤ). row-numbers r ++ x) (numbers-kept m ns (omega arith) (h .1))
+    ∙ ap (λ (x : List ℤ). x ++ ns) (row-kept f t g p (fit r (h .0)))

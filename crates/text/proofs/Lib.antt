@@ -15,3 +15,6 @@ pub mod Parted
 pub mod Small
 pub mod Tallied
 pub mod Climbs
+pub mod Filled
+pub mod In
+pub mod Fours

@@ -7,18 +7,23 @@ use Prim.Native.Nat.{ℕ, zero, suc, _+_, _-_, _<_, _≤_}
 use native.Mathlib.Omega.{arith}
 use borrow.Author.Tests.{lt-ltb, le-ltb, ltb-true, ltb-false}
 use lib.Dec.{eqb, ltb, leb·suc-suc}
-use lib.IntN.{ℤ}
-use lib.ListN.{length, drop, length-drop, drop-of-length-le}
+use lib.IntN.{ℤ, pos}
+use lib.ListN.{length, getD, drop, length-drop, drop-of-length-le}
 use lib.Seq.{drop-drop}
+use Rattle.paper.specs.Rows.{Table, table, natural, signed}
 use Rattle.paper.specs.Answers.{Ruling, accept, refuse, then}
-use Rattle.paper.specs.Text.{Line, longer, lines, Piece, read, read-line, read-rows, row-form, head-form}
+use Rattle.paper.specs.Text.{Line, longer, lines, Piece, read, read-line, read-rows, read-lines, row-form,
+  head-form}
+use Rattle.rows.specs.Places.{uncoded}
 use Rattle.rows.proofs.Rest.{by-test}
 use Rattle.text.specs.declared.reading.RowLine.{RowLine}
 use Rattle.text.specs.declared.reading.RowLine.the-variants as row-line
-use Rattle.text.specs.Reading.{front, line-end, row-of, row-from}
+use Rattle.text.specs.declared.reading.HeadLine.the-variants as head-line
+use Rattle.text.specs.Reading.{front, line-end, row-of, row-from, head-from}
 use Rattle.text.specs.Written.{row, row-numbers}
 use Rattle.text.specs.Tally.{rows-read}
-use Rattle.text.proofs.Told.{row-told, row-is-read}
+use Rattle.text.proofs.Told.{row-told, row-is-read, head-told, head-is-read}
+use Rattle.text.proofs.Small.{HeadAt, head-from-at}
 
 -- a line's end, and a byte before it
 lines-end : (b : ℕ) (bs : List ℕ) → eqb b 10 ≡ true → lines (b ∷ bs) ≡ record { bytes = []; ended = true } ∷ lines bs
@@ -125,3 +130,43 @@ module _ (t : List ℕ) (at : ℕ) where
     pub rows-row : (f o g c n : ℕ) → row-from t at ≡ row-line.Row f o g c n →
         rows-read t at ≡ then (rows-read t (line-end t at + 1)) (λ ns. accept (row-numbers (row f o g c) ++ ns))
     rows-row f o g c n e = rows-here ∙ rw (line-read row-form at (line-at t at) _ (row-read ∙ ap row-told e))
+
+-- the head line
+no-line : (t : List ℕ) → length t ≤ 0 → read-lines (lines t) ≡ refuse 13 (0 ∷ [])
+unfolding read-lines lines
+no-line [] h = refl
+no-line (b ∷ bs) h = absurd (omega arith)
+
+module _ (t : List ℕ) where
+  head-read : cond (ltb (line-end t 0) (length t)) (read head-form (front t)) none ≡ head-told (head-from t)
+  unfolding head-from
+  head-read = by-test (ltb (line-end t 0) (length t))
+      (λ e. rw e (sym (head-is-read (front t) (line-end t 0 + 1))))
+      (λ e. rw e)
+
+  some-head : (p k n : ℕ) → head-from t ≡ head-line.Head p k n → 0 < length t
+  some-head p k n e = omega (arith, head-from-at t p k n e .inside, head-from-at t p k n e .place)
+
+  head-here : 0 < length t → read-lines (lines t) ≡ then (read-line head-form 0 (line-at t 0)) (λ h.
+      then (rows-read t (line-end t 0 + 1)) (λ ns.
+      accept (table (getD h 0 (pos 0)) (natural (getD h 1 (pos 0))) ns)))
+  unfolding read-lines rows-read line-end
+  head-here h =
+      let n : length (front t) + 1 ≡ 0 + length (front t) + 1 = omega arith in
+      let ls = lines (drop (0 + length (front t) + 1) t) in
+      let of-rows : ℕ → Ruling Table = λ k.
+          then (read-line head-form 0 (line-at t 0)) (λ h.
+          then (read-rows k ls) (λ ns. accept (table (getD h 0 (pos 0)) (natural (getD h 1 (pos 0))) ns))) in
+      ap read-lines (lines-at t 0 h) ∙ ap of-rows n
+
+  -- the table, from its rows
+  pub head-rows : (p k n : ℕ) → head-from t ≡ head-line.Head p k n →
+      read-lines (lines t) ≡ then (rows-read t n) (λ ns. accept (table (signed (uncoded p)) k ns))
+  head-rows p k n e =
+      let q = line-read head-form 0 (line-at t 0) (signed (uncoded p) ∷ pos k ∷ []) (head-read ∙ ap head-told e) in
+      head-here (some-head p k n e) ∙ rw (q, head-from-at t p k n e .place)
+
+  pub head-bad : head-from t ≡ head-line.Bad → read-lines (lines t) ≡ refuse 13 (0 ∷ [])
+  head-bad e = by-test (ltb 0 (length t))
+      (λ h. head-here (ltb-true 0 (length t) h) ∙ rw (line-unread head-form 0 (line-at t 0) (head-read ∙ ap head-told e)))
+      (λ h. no-line t (ltb-false 0 (length t) h))

@@ -81,3 +81,46 @@ row-from-at t at f o g c n e = by-test (ltb (line-end t at) (length t))
         inside = omega (arith, s .place, ltb-true (line-end t at) (length t) h);
       })
     (λ h. never-row (rw h at e))
+
+pub record HeadAt (t : List ℕ) (p k n : ℕ) : Type 0 where
+  pub code : p ≤ 100000
+  pub few : k < 100000
+  pub place : n ≡ line-end t 0 + 1
+  pub inside : n ≤ length t
+
+pub record HeadSmall (p k n next : ℕ) : Type 0 where
+  pub code : p ≤ 100000
+  pub few : k < 100000
+  pub place : n ≡ next
+
+abbrev HeadIs : ℕ → HeadLine → Type 0
+HeadIs next (head-line.Head p k n) = HeadSmall p k n next
+HeadIs next head-line.Bad = Unit
+
+head-small : (l : List ℕ) (next : ℕ) → HeadIs next (head-of l next)
+unfolding head-of
+head-small l next =
+    on-each (HeadIs next) head-line.Bad _ (last-at l 0 (bytes "Dfa(")) tt (λ p a e₁.
+    let h₁ = last-within l 0 (bytes "Dfa(") p a (omega arith) e₁ in
+    on-each (HeadIs next) head-line.Bad _ (field-at l a (bytes ", ")) tt (λ k b e₂.
+    let h₂ = field-within l a (bytes ", ") k b (h₁ .inside) e₂ in
+    either (HeadIs next) (ends-at l b (bytes ")")) (head-line.Head p k next) head-line.Bad
+      (record { code = omega (arith, h₁ .small); few = h₂ .small; place = refl })
+      tt))
+
+never-head : {P : Type 0} {p k n : ℕ} → head-line.Bad ≡ head-line.Head p k n → P
+never-head e = let z : _≡_ {A = ℕ} 0 1 = cc in absurd (omega arith)
+
+pub head-from-at : (t : List ℕ) (p k n : ℕ) → head-from t ≡ head-line.Head p k n → HeadAt t p k n
+unfolding head-from
+head-from-at t p k n e = by-test (ltb (line-end t 0) (length t))
+    (λ h.
+      let q : head-of (front t) (line-end t 0 + 1) ≡ head-line.Head p k n = rw h at e in
+      let s : HeadSmall p k n (line-end t 0 + 1) = rw q at (head-small (front t) (line-end t 0 + 1)) in
+      record {
+        code = s .code;
+        few = s .few;
+        place = s .place;
+        inside = omega (arith, s .place, ltb-true (line-end t 0) (length t) h);
+      })
+    (λ h. never-head (rw h at e))

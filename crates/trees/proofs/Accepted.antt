@@ -1,6 +1,6 @@
 -- Every accepted call of build or unite, whatever its numbers, gives a table that passes the checks 2 to 7.
 -- Assumes of build that tokens are at most 65,535, as u16 are.
-use mathlib.Core.Path.{_≡_, refl, sym, _∙_, ap, subst}
+use mathlib.Core.Path.{_≡_, refl, sym, ap, subst}
 use mathlib.Core.Logic.{⊎-elim}
 use mathlib.Core.Bool.{Bool, true, false, not, _||_, cond}
 use mathlib.Core.List.{List, [], _∷_, _++_}
@@ -19,7 +19,7 @@ use Rattle.paper.specs.Answers.{Ruling, accept, refuse, Made}
 use Rattle.paper.specs.Checks.{first, any, row-slice, little-room, tree}
 use Rattle.paper.specs.Build.{built, strings, build, build-lengths, build-range, within}
 use Rattle.paper.specs.Unite.{united, unite, unite-tables}
-use Rattle.trees.specs.Trees.{Treed, Sound}
+use Rattle.trees.specs.Trees.{Sound}
 use Rattle.trees.specs.Bounds.{Short}
 use Rattle.trees.proofs.BuildSound.{built-sound}
 use Rattle.trees.proofs.UniteSound.{united-sound}
@@ -42,9 +42,9 @@ strings-short (n ∷ ns) tokens e h =
     let (a, b) = neither (ltb 16 n) (any (λ n. ltb 16 n) ns) e in
     let split = take-append-drop n tokens in
     let front : (t : ℕ) → In t (take n tokens) → t ≤ 65535 = λ t i.
-          h t (subst (λ (z : List ℕ). In t z) split (Memᴰ·append-left (drop n tokens) i)) in
+    h t (subst (λ (z : List ℕ). In t z) split (Memᴰ·append-left (drop n tokens) i)) in
     let back : (t : ℕ) → In t (drop n tokens) → t ≤ 65535 = λ t i.
-          h t (subst (λ (z : List ℕ). In t z) split (Memᴰ·append-right (take n tokens) i)) in
+    h t (subst (λ (z : List ℕ). In t z) split (Memᴰ·append-right (take n tokens) i)) in
     let rest = strings-short ns (drop n tokens) b back in
     let short : length (take n tokens) ≤ 16 = simp length-take (omega (arith, ltb-false 16 n a)) in
     record {
@@ -88,10 +88,11 @@ trees-passed a b r m e =
     let (b₄, f₄) = check-passed _ 4 _ m f₃ in
     let (b₅, f₅) = check-passed _ 5 _ m f₄ in
     let (b₆, f₆) = check-passed _ 6 _ m f₅ in
-    let (b₇, f₇) = check-passed _ 7 _ m f₆ in
-    (record { ranged = a₂; treed = record { ordered = a₃; shaped = a₄; held = a₅; whole = a₆; once = a₇ } },
-     record { ranged = b₂; treed = record { ordered = b₃; shaped = b₄; held = b₅; whole = b₆; once = b₇ } },
-     f₇)
+    let (b₇, f₇) = check-passed _ 7 _ m f₆ in (
+      record { ranged = a₂; treed = record { ordered = a₃; shaped = a₄; held = a₅; whole = a₆; once = a₇ } },
+      record { ranged = b₂; treed = record { ordered = b₃; shaped = b₄; held = b₅; whole = b₆; once = b₇ } },
+      f₇,
+    )
 
 pub unite-sound : (mode : Mode) (p : ℤ) (k : ℕ) (ns : List ℤ) (q : ℤ) (l : ℕ) (ms : List ℤ) (room : ℕ) (m : Made) →
     unite mode p k ns q l ms room ≡ accept m → Sound (m .table)

@@ -5,7 +5,7 @@ use mathlib.Core.Logic.{⊎-elim, _⊎_, inl, inr}
 use mathlib.Core.Option.{Option, none, some}
 use mathlib.Core.List.{List, [], _∷_, _++_, reverse, reverse-reverse}
 use mathlib.Core.List.{Memᴰ·append-left, Memᴰ·append-right, List·Memᴰ·append-cases}
-use Prim.Native.Nat.{ℕ, suc, _+_, _≤_, _<_}
+use Prim.Native.Nat.{ℕ, suc, _+_, _≤_}
 use native.Mathlib.Omega.{arith}
 use lib.ListN.{length, length-append}
 use Rattle.laws.proofs.Members.{In, here, there, nowhere, where-in}
@@ -14,10 +14,10 @@ use Rattle.paper.specs.declared.Mode.the-variants.{Intake}
 use Rattle.paper.specs.Rows.{Row, Table, find}
 use Rattle.paper.specs.Answers.{Ruling, accept, Made}
 use Rattle.paper.specs.Unite.{united}
-use Rattle.trees.specs.Reach.{Seat, sit, Word, said, view}
-use Rattle.trees.specs.Views.{join, seen}
+use Rattle.trees.specs.Reach.{Seat, sit, said, view}
+use Rattle.trees.specs.Views.{seen}
 use Rattle.trees.specs.Trees.{Treed}
-use Rattle.trees.specs.Unions.{as-seen, Union, Unites, joined, full, at-odds}
+use Rattle.trees.specs.Unions.{Union, Unites, joined, full, at-odds}
 use Rattle.trees.specs.Accepting.{accepts, accepting-rows, accepting-states, Claimed, Claims}
 use Rattle.trees.specs.Accepting.{Apart, apart-nil, apart-cons}
 use Rattle.trees.proofs.Find.{find-in}
@@ -52,13 +52,21 @@ length-if (some q) s = refl
 length-rows : (rs : List Row) → length (row-states rs) ≡ accepting-rows rs
 unfolding row-states accepting-rows
 length-rows [] = refl
-length-rows (r ∷ rs) = omega (arith, length-append (if-some (r .production) (r .to)) (row-states rs),
-    length-if (r .production) (r .to), length-rows rs)
+length-rows (r ∷ rs) = omega (
+  arith,
+  length-append (if-some (r .production) (r .to)) (row-states rs),
+  length-if (r .production) (r .to),
+  length-rows rs,
+)
 
 length-all : (t : Table) → length (all-states t) ≡ accepting-states t
 unfolding all-states accepting-states
-length-all t = omega (arith, length-append (if-some (t .prod0) 0) (row-states (t .rows)),
-    length-if (t .prod0) 0, length-rows (t .rows))
+length-all t = omega (
+  arith,
+  length-append (if-some (t .prod0) 0) (row-states (t .rows)),
+  length-if (t .prod0) 0,
+  length-rows (t .rows),
+)
 
 if-in : (o : Option ℕ) (s n : ℕ) → In n (if-some o s) → (n ≡ s) × (q : ℕ) × (o ≡ some q)
 unfolding if-some
@@ -102,6 +110,7 @@ apart-rows (r ∷ rs) (rows-cons h k) one =
         let (x, j, e, q, _) = rows-in rs (r .to) i in
         let z : x ≡ r = one x r (there j) here e in
         not-before-itself r x (h x j) (ap (λ (y : Row). y .from) z, ap (λ (y : Row). y .terminal) z)
+
     go : (o : Option ℕ) → Apart (row-states rs) → Apart (if-some o (r .to) ++ row-states rs)
     go none a = a
     go (some q) a = apart-cons new a
@@ -114,6 +123,7 @@ module _ (t : Table) (tr : Tree (t .rows)) where
     where
       new : In 0 (row-states (t .rows)) → ⊥
       new i = let (x, j, e, q, _) = rows-in (t .rows) 0 i in omega (arith, up (t .rows) tr x j, e)
+
       go : (o : Option ℕ) → Apart (row-states (t .rows)) → Apart (if-some o 0 ++ row-states (t .rows))
       go none a = a
       go (some q) a = apart-cons new a
@@ -132,12 +142,12 @@ module _ (t : Table) (tr : Tree (t .rows)) where
   unfolding all-states
   listed v x q e h = ⊎-elim
       (λ k. Memᴰ·append-left (row-states (t .rows))
-        (subst (λ (n : ℕ). In n (if-some (t .prod0) 0)) (sym (k .0)) (in-if (t .prod0) 0 q (sym (k .1) ∙ h))))
+      (subst (λ (n : ℕ). In n (if-some (t .prod0) 0)) (sym (k .0)) (in-if (t .prod0) 0 q (sym (k .1) ∙ h))))
       (λ k.
-        let (r, i, z) = k in
-        let p : r .production ≡ some q = ap (λ (y : Seat). y .production) (sym z) ∙ h in
-        Memᴰ·append-right (if-some (t .prod0) 0)
-          (subst (λ (y : Seat). In (y .state) (row-states (t .rows))) (sym z) (in-rows (t .rows) r q i p)))
+      let (r, i, z) = k in
+      let p : r .production ≡ some q = ap (λ (y : Seat). y .production) (sym z) ∙ h in
+      Memᴰ·append-right (if-some (t .prod0) 0)
+      (subst (λ (y : Seat). In (y .state) (row-states (t .rows))) (sym z) (in-rows (t .rows) r q i p)))
       (seat-row v x e)
 
   accepting : (v : List ℕ) (x : Seat) → lead t v ≡ some x → In (x .state) (all-states t) →
@@ -145,21 +155,21 @@ module _ (t : Table) (tr : Tree (t .rows)) where
   unfolding all-states
   accepting v x e i = ⊎-elim
       (λ j.
-        let (n, q, h) = if-in (t .prod0) 0 (x .state) j in
-        ⊎-elim
-          (λ k. (q, k .1 ∙ h))
-          (λ k. let (r, m, z) = k in
-            absurd (omega (arith, up (t .rows) tr r m, ap (λ (y : Seat). y .state) z, n)))
-          (seat-row v x e))
+      let (n, q, h) = if-in (t .prod0) 0 (x .state) j in
+      ⊎-elim
+      (λ k. (q, k .1 ∙ h))
+      (λ k. let (r, m, z) = k in
+      absurd (omega (arith, up (t .rows) tr r m, ap (λ (y : Seat). y .state) z, n)))
+      (seat-row v x e))
       (λ j.
-        let (r, m, s, q, h) = rows-in (t .rows) (x .state) j in
-        ⊎-elim
-          (λ k. absurd (omega (arith, up (t .rows) tr r m, s, k .0)))
-          (λ k.
-            let (r′, m′, z) = k in
-            let one : r′ ≡ r = same-to (t .rows) tr r′ r m′ m (ap (λ (y : Seat). y .state) (sym z) ∙ sym s) in
-            (q, ap (λ (y : Seat). y .production) z ∙ ap (λ (y : Row). y .production) one ∙ h))
-          (seat-row v x e))
+      let (r, m, s, q, h) = rows-in (t .rows) (x .state) j in
+      ⊎-elim
+      (λ k. absurd (omega (arith, up (t .rows) tr r m, s, k .0)))
+      (λ k.
+      let (r′, m′, z) = k in
+      let one : r′ ≡ r = same-to (t .rows) tr r′ r m′ m (ap (λ (y : Seat). y .state) (sym z) ∙ sym s) in
+      (q, ap (λ (y : Seat). y .production) z ∙ ap (λ (y : Row). y .production) one ∙ h))
+      (seat-row v x e))
       (List·Memᴰ·append-cases (if-some (t .prod0) 0) i)
 
   bounded : (n : ℕ) → In n (all-states t) → n ≤ length (t .rows)
@@ -179,7 +189,7 @@ module _ (t : Table) (tr : Tree (t .rows)) where
   accepting-count cs c =
       let down = into-le (λ σ i. Led t i (reverse σ)) (one-string t tr) cs (all-states t) (c .once) forth in
       let up = into-le (λ i σ. Led t i (reverse σ)) (λ i j σ a b. same-state t tr (reverse σ) i j a b)
-            (all-states t) cs apart-all back in
+      (all-states t) cs apart-all back in
       omega (arith, down, up, length-all t)
     where
       forth : (σ : List ℕ) → In σ cs → (i : ℕ) × Led t i (reverse σ) × In i (all-states t)
@@ -187,6 +197,7 @@ module _ (t : Table) (tr : Tree (t .rows)) where
           let (q, e) = c .sound σ j in
           let (x, e₁, e₂) = seated (lead t (reverse σ)) q (sym (view-word t σ) ∙ e) in
           (x .state, (x, e₁, refl), listed (reverse σ) x q e₁ e₂)
+
       back : (i : ℕ) → In i (all-states t) → (σ : List ℕ) × Led t i (reverse σ) × In σ cs
       back i j =
           let (v, led) = path-to t tr (suc i) i (omega arith) (bounded i j) in
@@ -194,7 +205,7 @@ module _ (t : Table) (tr : Tree (t .rows)) where
           let (q, h) = accepting v x e₁ (subst (λ (n : ℕ). In n (all-states t)) (sym e₂) j) in
           let led-back : Led t i (reverse (reverse v)) = (x, ap (lead t) (reverse-reverse v) ∙ e₁, e₂) in
           let said-so : view t (reverse v) ≡ some (some q) =
-                view-word t (reverse v) ∙ ap (word t) (reverse-reverse v) ∙ ap said e₁ ∙ ap some h in
+          view-word t (reverse v) ∙ ap (word t) (reverse-reverse v) ∙ ap said e₁ ∙ ap some h in
           (reverse v, led-back, c .complete (reverse v) (q, said-so))
 
 -- ---- of an intake union
@@ -208,7 +219,9 @@ accepting-union A B a b m e cs c = go (united-views Intake A B a b) e
     counts T u = accepting-count T (passes-tree T (u .treed)) cs (record {
       once = c .once;
       sound = λ σ i. ⊎-elim
-          (λ k. (k .0, u .views σ ∙ claim-left (view A σ) (view B σ) (k .0) (k .1) (λ q h. u .agree σ (k .0) q (k .1) h)))
+          (λ k.
+          let both = u .agree σ (k .0) in
+          (k .0, u .views σ ∙ claim-left (view A σ) (view B σ) (k .0) (k .1) (λ q h. both q (k .1) h)))
           (λ k. (k .0, u .views σ ∙ claim-right (view A σ) (view B σ) (k .0) (k .1)))
           (c .sound σ i);
       complete = λ σ k. c .complete σ (⊎-elim
@@ -216,6 +229,7 @@ accepting-union A B a b m e cs c = go (united-views Intake A B a b) e
           (λ h. inr (k .0, h))
           (join-claim (view A σ) (view B σ) (k .0) (sym (u .views σ) ∙ k .1)));
     })
+
     go : {g : Ruling Made} → Unites Intake A B g → g ≡ accept m → accepting-states (m .table) ≡ length cs
     go (joined {T} u l) h =
         let z : record { table = T; states = suc (length (T .rows)) } ≡ m = cc in

@@ -3,8 +3,7 @@
 use mathlib.Core.Path.{_≡_, refl, sym, _∙_, ap, subst}
 use mathlib.Core.Logic.{⊎-elim, _⊎_, inl, inr}
 use mathlib.Core.Bool.{Bool, true, false, cond, false≢true}
-use mathlib.Core.Option.{Option, none, some}
-use mathlib.Core.List.{List, [], _∷_, _++_, map, List·Memᴰ·head}
+use mathlib.Core.List.{List, [], _∷_, _++_, List·Memᴰ·head}
 use mathlib.Core.List.{List·Memᴰ·eq-of-singleton, List·Memᴰ·append-cases, Memᴰ·map, Memᴰ·of-map}
 use mathlib.Core.List.{Memᴰ·cast, Memᴰ·append-left, Memᴰ·append-right}
 use Prim.Native.Nat.{ℕ, suc, _≤_}
@@ -34,7 +33,7 @@ unfolding string-beginnings
 in-strings p [] σ i b = absurd (nowhere i)
 in-strings p (τ ∷ σs) σ i b = ⊎-elim
     (λ e. Memᴰ·append-left (string-beginnings σs)
-      (subst (λ (z : List ℕ). In p (beginnings z)) (sym (sym e ∙ b .1)) (in-beginnings p (b .0))))
+    (subst (λ (z : List ℕ). In p (beginnings z)) (sym (sym e ∙ b .1)) (in-beginnings p (b .0))))
     (λ j. Memᴰ·append-right (beginnings τ) (in-strings p σs σ j b))
     (where-in i)
 
@@ -43,7 +42,7 @@ unfolding all-beginnings
 begun-in [] p b = absurd (nowhere (b .listed))
 begun-in (l ∷ ls) p b = ⊎-elim
     (λ e. Memᴰ·append-left (all-beginnings ls) (in-strings p (l .strings) (b .string)
-      (subst (λ (z : Opening). In (b .string) (z .strings)) e (b .within)) (b .begins)))
+    (subst (λ (z : Opening). In (b .string) (z .strings)) e (b .within)) (b .begins)))
     (λ j. Memᴰ·append-right (string-beginnings (l .strings)) (begun-in ls p (record {
       list = b .list;
       listed = j;
@@ -102,9 +101,9 @@ beginnings-in [] p i = ([], sym (ap (λ (z : List ℕ). z ++ []) (List·Memᴰ·
 beginnings-in (t ∷ σ) p i = ⊎-elim
     (λ e. (t ∷ σ, sym (ap (λ (z : List ℕ). z ++ (t ∷ σ)) e)))
     (λ j.
-      let (z, k, e) = Memᴰ·of-map (λ p. t ∷ p) (beginnings σ) j in
-      let (b, f) = beginnings-in σ z k in
-      (b, ap (λ (y : List ℕ). t ∷ y) f ∙ ap (λ (y : List ℕ). y ++ b) e))
+    let (z, k, e) = Memᴰ·of-map (λ p. t ∷ p) (beginnings σ) j in
+    let (b, f) = beginnings-in σ z k in
+    (b, ap (λ (y : List ℕ). t ∷ y) f ∙ ap (λ (y : List ℕ). y ++ b) e))
     (where-in i)
 
 strings-in : (σs : List (List ℕ)) (p : List ℕ) → In p (string-beginnings σs) →
@@ -121,8 +120,8 @@ unfolding all-beginnings
 in-begun [] p i = inl (List·Memᴰ·eq-of-singleton i)
 in-begun (l ∷ ls) p i = ⊎-elim
     (λ j.
-      let (σ, k, b) = strings-in (l .strings) p j in
-      inr (record { list = l; listed = here; string = σ; within = k; begins = b }))
+    let (σ, k, b) = strings-in (l .strings) p j in
+    inr (record { list = l; listed = here; string = σ; within = k; begins = b }))
     (λ j. ⊎-elim (λ e. inl e) (λ b. inr (begun-more ls (l ∷ ls) (λ m k. there k) p b)) (in-begun ls p j))
     (List·Memᴰ·append-cases (string-beginnings (l .strings)) i)
 
@@ -132,9 +131,9 @@ pub tells-size : (all ls : List Opening) → ((l : Opening) → In l ls → In l
     (t : Table) → Tree (t .rows) → Tells (view t) ls → suc (length (t .rows)) ≤ length (distinct (all-beginnings all))
 tells-size all ls sub t tr tells = states-le t tr (distinct (all-beginnings all)) (λ σ x e.
     in-distinct (all-beginnings all) σ (⊎-elim
-      (λ k. Memᴰ·cast k (nil-in all))
-      (λ b. begun-in all σ (begun-more ls all sub σ b))
-      (tells .dom σ x e)))
+    (λ k. Memᴰ·cast k (nil-in all))
+    (λ b. begun-in all σ (begun-more ls all sub σ b))
+    (tells .dom σ x e)))
 
 -- as many states as beginnings
 pub tells-count : (ls : List Opening) (t : Table) → Tree (t .rows) → Tells (view t) ls →
@@ -143,7 +142,7 @@ unfolding view reach said all-onward
 tells-count ls t tr tells =
     let up = tells-size ls ls (λ l i. i) t tr tells in
     let down = le-states t tr (distinct (all-beginnings ls)) (distinct-apart (all-beginnings ls)) (λ σ i. ⊎-elim
-          (λ e. (t .prod0, ap (view t) e))
-          (λ b. tells .begun σ b)
-          (in-begun ls σ (distinct-in (all-beginnings ls) σ i))) in
+    (λ e. (t .prod0, ap (view t) e))
+    (λ b. tells .begun σ b)
+    (in-begun ls σ (distinct-in (all-beginnings ls) σ i))) in
     omega (arith, up, down)

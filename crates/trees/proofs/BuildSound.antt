@@ -1,6 +1,6 @@
 -- Build makes a tree by the checks: 3 to 7 always, and 2 for strings within bounds that fill at most 1,024 states.
 -- Assumes nothing.
-use mathlib.Core.Path.{_≡_, refl, sym, _∙_, ap}
+use mathlib.Core.Path.{_≡_, refl}
 use mathlib.Core.Bool.{true}
 use mathlib.Core.Option.{Option, none, some}
 use mathlib.Core.List.{List, [], _∷_}
@@ -10,7 +10,7 @@ use lib.ListN.{length}
 use Rattle.laws.proofs.Members.{In, here, there}
 use Rattle.paper.specs.Rows.{Row, Table, find}
 use Rattle.paper.specs.Checks.{production-fits}
-use Rattle.paper.specs.Build.{insert, give, Standing, enter, walk-in, add-string, add-strings, built}
+use Rattle.paper.specs.Build.{give, Standing, enter, walk-in, add-string, add-strings, built}
 use Rattle.paper.specs.Lists.{longest-string}
 use Rattle.trees.specs.Trees.{Treed, Sound}
 use Rattle.trees.specs.Bounds.{Short}
@@ -51,7 +51,7 @@ walk-in-fits [] w h f = f
 walk-in-fits (t ∷ σ) w h f =
     let o = find (w .rows) (w .state) t in
     walk-in-fits σ (enter (w .rows) (w .state) t o) (λ u i. h u (there i))
-      (enter-fits (w .rows) (w .state) t o (h t here) f)
+    (enter-fits (w .rows) (w .state) t o (h t here) f)
 
 module _ (q : ℕ) (small : q ≤ 65535) where
   root-string : (t : Table) (σ : List ℕ) → production-fits (t .prod0) ≡ true →

@@ -1,9 +1,8 @@
 -- Build makes a tree, and its word on each beginning is the join of its strings' words. Assumes nothing.
 use mathlib.Core.Path.{_≡_, refl, sym, _∙_, ap}
 use mathlib.Core.Option.{Option, none, some}
-use mathlib.Core.List.{List, [], _∷_, map, reverse, reverseAux, nil≢cons}
-use Prim.Native.Nat.{ℕ, suc}
-use lib.ListN.{length}
+use mathlib.Core.List.{List, [], _∷_, reverse, reverseAux, nil≢cons}
+use Prim.Native.Nat.{ℕ}
 use Rattle.paper.specs.Rows.{Row, Table, find}
 use Rattle.paper.specs.declared.Mode.the-variants.{Intake}
 use Rattle.paper.specs.Predict.{or-else}
@@ -14,7 +13,8 @@ use Rattle.trees.proofs.Paint.{find-give}
 use Rattle.trees.proofs.Paths.{path, word, onward-some}
 use Rattle.trees.proofs.Grown.{grown-here}
 use Rattle.trees.proofs.Tree.{Tree, no-rows, next-row, grown-insert, tree-insert, tree-give}
-use Rattle.trees.proofs.Words.{join-none, join-assoc, only, only-here, only-off, grown-word, given-word, known-word}
+use Rattle.trees.proofs.Words.{join-none, join-assoc, only, only-here, only-off}
+use Rattle.trees.proofs.Words.{grown-word, given-word, known-word}
 
 -- The words on the beginnings behind w on the way along σ.
 unfoldable pub along : List ℕ → List ℕ → List ℕ → Word
@@ -70,7 +70,8 @@ module _ (p : Option ℕ) where
         seat = b .seat;
         at = b .at;
         is = b .is;
-        words = λ v. b .words v ∙ ap (λ (o : Word). join Intake o (along (t ∷ w) σ v)) (a .words v) ∙ join-assoc _ _ _ _;
+        words = λ v. b .words v
+            ∙ ap (λ (o : Word). join Intake o (along (t ∷ w) σ v)) (a .words v) ∙ join-assoc _ _ _ _;
       })
 
 -- What one string says under the production q; what a list of strings says.
@@ -93,11 +94,12 @@ add-string-good q t σ tr =
     let u : Table = record { prod0 = t .prod0; k = t .k; rows = w .rows } in
     let a = walked (t .prod0) σ s [] (record { state = 0; production = t .prod0 }) tr refl refl in
     let f′ : Finder = find (give (w .state) (some q) u .rows) in
-    let g = given-word Intake (t .prod0) (find (w .rows)) f′ (reverse σ) (a .seat) (w .state) (some q) (a .tree .branching)
-          (find-give (w .state) (some q) u) (a .at) (a .is) in
+    let g = given-word Intake (t .prod0) (find (w .rows)) f′ (reverse σ) (a .seat) (w .state) (some q)
+    (a .tree .branching) (find-give (w .state) (some q) u) (a .at) (a .is) in
     record {
       tree = tree-give (w .state) (some q) u (a .tree);
-      words = λ v. g v ∙ ap (λ (o : Word). join Intake o (only (reverse σ) (some q) v)) (a .words v) ∙ join-assoc _ _ _ _;
+      words = λ v. g v
+          ∙ ap (λ (o : Word). join Intake o (only (reverse σ) (some q) v)) (a .words v) ∙ join-assoc _ _ _ _;
     }
 
 pub add-strings-good : (q : ℕ) (σs : List (List ℕ)) (t : Table) → Tree (t .rows) →
@@ -109,7 +111,8 @@ add-strings-good q (σ ∷ σs) t tr =
     let b = add-strings-good q σs (add-string q t σ) (a .tree) in
     record {
       tree = b .tree;
-      words = λ v. b .words v ∙ ap (λ (o : Word). join Intake o (strings-word q σs v)) (a .words v) ∙ join-assoc _ _ _ _;
+      words = λ v. b .words v
+          ∙ ap (λ (o : Word). join Intake o (strings-word q σs v)) (a .words v) ∙ join-assoc _ _ _ _;
     }
 
 abbrev pub nothing : Table

@@ -1,35 +1,34 @@
 -- Demand 3 up to shrink: lists within bounds with at most 1,024 beginnings, built and united one after the other in
 -- intake mode, are refused only by 8, exactly when one string stands under two productions; otherwise the result is a
 -- tree that says what the lists say. Assumes nothing.
-use mathlib.Core.Path.{_≡_, refl, sym, _∙_, ap, subst, fun-ext}
-use mathlib.Core.Option.{Option, none, some}
+use mathlib.Core.Path.{_≡_, refl, sym, _∙_, subst, fun-ext}
+use mathlib.Core.Option.{some}
 use mathlib.Core.List.{List, [], _∷_, _++_, append-nil, List·Memᴰ·eq-of-singleton}
 use mathlib.Core.List.{Memᴰ·cast, Memᴰ·append-left, Memᴰ·append-right}
-use Prim.Native.Nat.{ℕ, suc, max, _≤_, _<_}
+use Prim.Native.Nat.{ℕ, suc, max, _≤_}
 use native.Mathlib.Omega.{arith}
 use lib.ListN.{length}
 use lib.Seq.{append-snoc}
 use Rattle.laws.proofs.Members.{In, here}
 use Rattle.paper.specs.declared.Mode.the-variants.{Intake}
 use Rattle.paper.specs.Rows.{Table}
-use Rattle.paper.specs.Answers.{Ruling, accept, refuse, then, Made}
+use Rattle.paper.specs.Answers.{Ruling, then, Made}
 use Rattle.paper.specs.Build.{built}
 use Rattle.paper.specs.Unite.{united-k, united}
-use Rattle.paper.specs.Lists.{Opening, longest-string, longest, all-beginnings, distinct}
+use Rattle.paper.specs.Lists.{Opening, longest, all-beginnings, distinct}
 use Rattle.trees.specs.Reach.{Word, view}
 use Rattle.trees.specs.Views.{join, seen}
 use Rattle.trees.specs.Trees.{Treed, Sound}
 use Rattle.trees.specs.Bounds.{Bounded}
-use Rattle.trees.specs.Unions.{as-seen, Union, Unites}
+use Rattle.trees.specs.Unions.{Union, Unites}
 use Rattle.trees.specs.Unions as unions
-use Rattle.trees.specs.Says.{Says, Stands}
-use Rattle.trees.specs.Chain.{build-list, unite-made, unite-rest, chain, Conflict, United-lists, Chained}
+use Rattle.trees.specs.Says.{Says}
+use Rattle.trees.specs.Chain.{unite-made, unite-rest, chain, United-lists, Chained}
 use Rattle.trees.specs.Chain as chains
 use Rattle.trees.proofs.Checked.{passes-tree}
 use Rattle.trees.proofs.Fits.{Fits, fits-range}
-use Rattle.trees.proofs.Built.{built-tree}
 use Rattle.trees.proofs.BuildSound.{built-k, built-fits, built-treed}
-use Rattle.trees.proofs.UniteSound.{Holds, holds, refused, united-views, united-fits}
+use Rattle.trees.proofs.UniteSound.{Holds, holds, united-views, united-fits}
 use Rattle.trees.proofs.Tells.{Tells, tells-built, tells-join, tells-says, stands-more}
 use Rattle.trees.proofs.Beginnings.{tells-size, tells-count}
 use Rattle.trees.proofs.Calls.{counted, build-accepts, unite-accepts}
@@ -96,7 +95,9 @@ module _ (all : List Opening) (bd : (l : Opening) → In l all → Bounded l)
   own-sub l i m j = Memᴰ·cast (List·Memᴰ·eq-of-singleton j) i
 
   own-size : (l : Opening) → In l all → suc (length (built (l .production) (l .strings) .rows)) ≤ 1024
-  own-size l i = let p = own l i in size (l ∷ []) (own-sub l i) (built (l .production) (l .strings)) (p .treed) (p .tells)
+  own-size l i =
+      let p = own l i in
+      size (l ∷ []) (own-sub l i) (built (l .production) (l .strings)) (p .treed) (p .tells)
 
   -- one list more, as `united` has it
   module _ (done rest : List Opening) (l : Opening) (t : Table) (e : all ≡ done ++ l ∷ rest) (p : Part done t) where
@@ -120,8 +121,8 @@ module _ (all : List Opening) (bd : (l : Opening) → In l all → Bounded l)
     one-more g (unions.full {T} u big) h ih =
         let b : Table = built (l .production) (l .strings) in
         let tells : Tells (view T) (done ++ (l ∷ [])) =
-              tells-same (view T) (λ σ. join Intake (view t σ) (view b σ)) (done ++ (l ∷ [])) (u .views)
-                (tells-join (view t) (view b) done (l ∷ []) (p .tells) (own l this .tells) (u .agree)) in
+        tells-same (view T) (λ σ. join Intake (view t σ) (view b σ)) (done ++ (l ∷ [])) (u .views)
+        (tells-join (view t) (view b) done (l ∷ []) (p .tells) (own l this .tells) (u .agree)) in
         absurd (omega (arith, big, size (done ++ (l ∷ [])) both T (u .treed) tells))
     one-more g (unions.at-odds {p = x} {q = y} σ e₁ e₂ n) h ih = chains.clashed (record {
       string = σ;
@@ -137,14 +138,12 @@ module _ (all : List Opening) (bd : (l : Opening) → In l all → Bounded l)
     next-list ih =
         let b : Table = built (l .production) (l .strings) in
         let r = own l this in
-        let small-t = size done before t (p .treed) (p .tells) in
         let small-b = own-size l this in
         let step : unite-made (counted t) (counted b) ≡ united Intake t b =
-              unite-accepts (counted t) (counted b) (sound done before t p) (sound (l ∷ []) (own-sub l this) b r)
-                (omega arith) (omega arith) in
+        unite-accepts (counted t) (counted b) (sound done before t p) (sound (l ∷ []) (own-sub l this) b r) in
         rw (build-accepts l (bd l this) small-b) (rw step (
-          one-more (united Intake t b) (united-views Intake t b (p .treed) (r .treed))
-            (united-fits Intake t b (p .fits) (r .fits)) ih))
+        one-more (united Intake t b) (united-views Intake t b (p .treed) (r .treed))
+        (united-fits Intake t b (p .fits) (r .fits)) ih))
 
   finish : (l : Opening) (ls : List Opening) → all ≡ l ∷ ls → (t : Table) → Part all t → United-lists all (counted t)
   unfolding Sub
@@ -179,5 +178,5 @@ chain-good l ls bd bound =
     let all : List Opening = l ∷ ls in
     let i : In l (l ∷ ls) = here in
     rw (build-accepts l (bd l i) (own-size (l ∷ ls) bd bound l i))
-      (rest-good (l ∷ ls) bd bound l ls refl ls (l ∷ []) (built (l .production) (l .strings)) refl
-        (own (l ∷ ls) bd bound l i))
+    (rest-good (l ∷ ls) bd bound l ls refl ls (l ∷ []) (built (l .production) (l .strings)) refl
+    (own (l ∷ ls) bd bound l i))

@@ -1,8 +1,7 @@
 -- The checks 3 to 7 pass exactly the trees. Assumes nothing.
 use mathlib.Core.Path.{_≡_, refl, sym, _∙_, ap}
-use mathlib.Core.Bool.{Bool, true, false, not, _&&_}
+use mathlib.Core.Bool.{true, false, not, _&&_}
 use mathlib.Core.Option.{Option, none, some}
-use mathlib.Core.List.{List}
 use Prim.Native.Nat.{ℕ, zero, suc, _≤_, _<_}
 use native.Mathlib.Omega.{arith}
 use lib.ListN.{length}
@@ -11,16 +10,15 @@ use borrow.Author.Tests.{eq-eqb, lt-leb, leb-false, not-false}
 use Rattle.laws.proofs.Members.{In}
 use Rattle.laws.proofs.Tests.{Test, same, apart, test, never}
 use Rattle.laws.proofs.Every.{both, any-true, any-false, any-in}
-use Rattle.paper.specs.Rows.{Row, Table, find}
+use Rattle.paper.specs.Rows.{Row, Table}
 use Rattle.paper.specs.Checks.{any, rising, order, shape, loose, same-production, split}
 use Rattle.paper.specs.Checks.{rows-into, each-once, no-tree}
 use Rattle.trees.specs.Trees.{Treed}
 use Rattle.trees.proofs.Find.{find-in}
 use Rattle.laws.proofs.RowsRise.{RowsRise, rise-rising, rising-rise}
 use Rattle.trees.proofs.Rising.{in-find}
-use Rattle.trees.proofs.Paths.{Branching}
 use Rattle.trees.proofs.Counted.{into-one, once-in, into-some, one-in, sum-once, sum-in}
-use Rattle.trees.proofs.Tree.{Tree, found, up, to-le, same-to, into}
+use Rattle.trees.proofs.Tree.{Tree, up, to-le, same-to, into}
 
 same-production-self : (x y : Option ℕ) → x ≡ y → same-production x y ≡ true
 unfolding same-production
@@ -37,9 +35,9 @@ module _ (t : Table) (tr : Tree (t .rows)) where
   once-true (suc n) l =
       let (x, i, e) = into (t .rows) tr (suc n) (omega arith) l in
       let one = into-one (suc n) (t .rows) x (tr .rising) i e
-            (λ y j k. same-to (t .rows) tr y x j i (k ∙ sym e)) in
+      (λ y j k. same-to (t .rows) tr y x j i (k ∙ sym e)) in
       both (eqb (rows-into (t .rows) (suc n)) 1) (each-once (t .rows) n)
-        (eq-eqb (rows-into (t .rows) (suc n)) 1 one) (once-true n (omega arith))
+      (eq-eqb (rows-into (t .rows) (suc n)) 1 one) (once-true n (omega arith))
 
   held : (r : Row) → In r (t .rows) →
       not (eqb (r .from) 0) && not (any (λ x. eqb (x .to) (r .from)) (t .rows)) ≡ false
@@ -76,7 +74,7 @@ module _ (t : Table) (tr : Tree (t .rows)) where
         (λ r. any (λ x. eqb (x .to) (r .to) && not (same-production (x .production) (r .production))) (t .rows))
         (t .rows)
         (λ r i. any-false (λ x. eqb (x .to) (r .to) && not (same-production (x .production) (r .production)))
-          (t .rows) (whole r i));
+        (t .rows) (whole r i));
     once = ap not (once-true (length (t .rows)) (omega arith));
   }
 

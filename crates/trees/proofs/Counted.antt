@@ -1,7 +1,7 @@
 -- How many rows lead into a state, counted by the check for trees. Assumes nothing.
 use mathlib.Core.Path.{_≡_, refl, sym, _∙_, ap}
 use mathlib.Core.Logic.{⊎-elim, _⊎_, inl, inr}
-use mathlib.Core.Bool.{Bool, true, false, cond, _&&_}
+use mathlib.Core.Bool.{Bool, true, false, cond}
 use mathlib.Core.List.{List, [], _∷_}
 use Prim.Native.Nat.{ℕ, zero, suc, _+_, _≤_, _<_}
 use native.Mathlib.Omega.{arith}
@@ -32,8 +32,10 @@ into-one n (y ∷ rs) r (rows-cons b s) i e h =
   where
     clear : (x : Row) → x ≡ y → Before y x → ⊥
     clear x z p = not-before-itself y x p (ap (λ (q : Row). q .from) z, ap (λ (q : Row). q .terminal) z)
+
     once : y .to ≡ n → (x : Row) → In x rs → x .to ≡ n → ⊥
     once k x l m = clear x (h x (there l) m ∙ sym (h y here k)) (b x l)
+
     go : Test (y .to) n (eqb (y .to) n) → (r ≡ y) ⊎ In r rs → (In r rs → rows-into rs n ≡ 1) →
         cond (eqb (y .to) n) (suc (rows-into rs n)) (rows-into rs n) ≡ 1
     go (same k t) j ih = rw t (ap suc (into-none n rs (once k)))
@@ -47,8 +49,10 @@ once-in rs (suc m) e n l h = go (test n (suc m)) (once-in rs m)
   where
     here : rows-into rs (suc m) ≡ 1
     here = eqb-true (rows-into rs (suc m)) 1 (first-of (eqb (rows-into rs (suc m)) 1) (each-once rs m) e)
+
     below : each-once rs m ≡ true
     below = second-of (eqb (rows-into rs (suc m)) 1) (each-once rs m) e
+
     go : Test n (suc m) (eqb n (suc m)) → (each-once rs m ≡ true → (n : ℕ) → 0 < n → n ≤ m → rows-into rs n ≡ 1) →
         rows-into rs n ≡ 1
     go (same k _) ih = ap (rows-into rs) k ∙ here
@@ -76,7 +80,8 @@ into-there n (r ∷ rs) x i e = go (test (r .to) n) (where-in i) (λ j. into-the
     go (apart k t) (inr j) ih = rw t (ih j)
 
 -- one row into n: any two are the same
-pub one-in : (n : ℕ) (rs : List Row) → rows-into rs n ≤ 1 → (x y : Row) → In x rs → In y rs → x .to ≡ n → y .to ≡ n → x ≡ y
+pub one-in : (n : ℕ) (rs : List Row) → rows-into rs n ≤ 1 → (x y : Row) → In x rs → In y rs →
+    x .to ≡ n → y .to ≡ n → x ≡ y
 unfolding rows-into
 one-in n [] h x y i j e f = absurd (nowhere i)
 one-in n (r ∷ rs) h x y i j e f =
@@ -84,6 +89,7 @@ one-in n (r ∷ rs) h x y i j e f =
   where
     to-of : (z : Row) → z ≡ r → z .to ≡ n → r .to ≡ n
     to-of z k l = ap (λ (q : Row). q .to) (sym k) ∙ l
+
     go : Test (r .to) n (eqb (r .to) n) → cond (eqb (r .to) n) (suc (rows-into rs n)) (rows-into rs n) ≤ 1 →
         (x ≡ r) ⊎ In x rs → (y ≡ r) ⊎ In y rs →
         (rows-into rs n ≤ 1 → (x y : Row) → In x rs → In y rs → x .to ≡ n → y .to ≡ n → x ≡ y) → x ≡ y
@@ -112,7 +118,7 @@ sum-off r rs zero h = refl
 sum-off r rs (suc n) h =
     let ne : r .to ≡ suc n → ⊥ = λ k. ⊎-elim (λ z. omega arith) (λ z. omega arith) h in
     rw (ne-eqb (r .to) (suc n) ne) (ap (λ (z : ℕ). rows-into rs (suc n) + z)
-      (sum-off r rs n (⊎-elim (λ z. inl z) (λ z. inr (omega arith)) h)))
+    (sum-off r rs n (⊎-elim (λ z. inl z) (λ z. inr (omega arith)) h)))
 
 sum-le : (r : Row) (rs : List Row) (n : ℕ) → sum-into (r ∷ rs) n ≤ suc (sum-into rs n)
 unfolding sum-into rows-into
@@ -145,11 +151,14 @@ sum-in (r ∷ rs) n h x i = ⊎-elim
   where
     bad : (r .to ≡ 0) ⊎ (n < r .to) → ⊥
     bad z = omega (arith, h, sum-off r rs n z, sum-all rs n)
+
     low : (m : ℕ) → r .to ≡ m → 0 < m
     low zero e = absurd (bad (inl e))
     low (suc m) e = omega arith
+
     high : (b : Bool) → leb (r .to) n ≡ b → r .to ≤ n
     high true e = leb-true (r .to) n e
     high false e = absurd (bad (inr (leb-false (r .to) n e)))
+
     go : x .to ≡ r .to → (0 < x .to) × (x .to ≤ n)
     go e = rw e (low (r .to) refl, high (leb (r .to) n) refl)

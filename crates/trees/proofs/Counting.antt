@@ -38,13 +38,14 @@ module _ {A B : Type 0} (R : A → B → Type 0) (one : (x y : A) (b : B) → R 
           suc (length xs) ≤ length ys
       go b r (dropped ys′ e k) ih =
           let others : (y : A) → In y xs → (c : B) × R y c × In c ys′ = λ y j.
-                let (c, s, i) = h y (there j) in
-                (c, s, k c i (λ z. n (subst (λ (w : A). In w xs) (one y x b (subst (R y) z s) r) j))) in
+          let (c, s, i) = h y (there j) in
+          (c, s, k c i (λ z. n (subst (λ (w : A). In w xs) (one y x b (subst (R y) z s) r) j))) in
           omega (arith, e, ih ys′ others)
 
 pub subset-le : {A : Type 0} (xs ys : List A) → Apart xs → ((x : A) → In x xs → In x ys) →
     length xs ≤ length ys
-subset-le {A} xs ys a h = into-le {A = A} {B = A} (λ x y. x ≡ y) (λ x y b e f. e ∙ sym f) xs ys a (λ x i. (x, refl, h x i))
+subset-le {A} xs ys a h =
+    into-le {A = A} {B = A} (λ x y. x ≡ y) (λ x y b e f. e ∙ sym f) xs ys a (λ x i. (x, refl, h x i))
 
 -- ---- the numbers below n
 unfoldable pub upto : ℕ → List ℕ

@@ -1,6 +1,6 @@
 -- For a table whose view says what the lists say, intake predict gives what the lists define. Assumes nothing.
 use mathlib.Core.Path.{_≡_, refl, sym, _∙_, ap, ap₂}
-use mathlib.Core.Bool.{Bool, true, false, cond, _||_}
+use mathlib.Core.Bool.{Bool, true, false, cond}
 use mathlib.Core.Option.{Option, none, some}
 use mathlib.Core.List.{List, [], _∷_, _++_, reverse, reverse-reverse, reverse-append, reverse-cons}
 use Prim.Native.Nat.{ℕ, zero, suc, _≤_}
@@ -12,8 +12,8 @@ use borrow.Author.Tests.{le-ltb}
 use Rattle.paper.specs.declared.Mode.the-variants.{Intake}
 use Rattle.laws.proofs.RowNumbers.{table-numbers, slice-numbers}
 use Rattle.paper.specs.Rows.{Table, signed, numbers}
-use Rattle.paper.specs.Answers.{Ruling, accept, refuse, then, Chosen}
-use Rattle.paper.specs.Checks.{first, range, order}
+use Rattle.paper.specs.Answers.{accept, then}
+use Rattle.paper.specs.Checks.{range, order}
 use Rattle.paper.specs.Predict.{or-else, chosen, predict-table, predict}
 use Rattle.paper.specs.Lists.{Opening, begins-some, stands-under, become, longest-within, longest, or-none, defined}
 use Rattle.trees.specs.Reach.{Word}
@@ -32,7 +32,7 @@ module _ (ls : List Opening) (D : List ℕ → Word) (says : (v : List ℕ) → 
   unfolding advance told
   advance-is p t =
       let back : reverse (t ∷ reverse p) ≡ p ++ (t ∷ []) =
-            ap reverse (sym (reverse-snoc p t)) ∙ reverse-reverse (p ++ (t ∷ [])) in
+      ap reverse (sym (reverse-snoc p t)) ∙ reverse-reverse (p ++ (t ∷ [])) in
       ap (advance (reverse p) t) (says (t ∷ reverse p) ∙ ap (told ls) back) ∙ go (begins-some ls (p ++ (t ∷ [])))
     where
       go : (b : Bool) → advance (reverse p) t (cond b (some (stands-under ls (p ++ (t ∷ [])))) none)
@@ -67,10 +67,10 @@ module _ (ls : List Opening) (D : List ℕ → Word) (says : (v : List ℕ) → 
   best-is [] = claim-is []
   best-is (t ∷ v) =
       let whole : take (suc (length v)) (reverse (t ∷ v)) ≡ reverse (t ∷ v) =
-            take-all (suc (length v)) (reverse (t ∷ v)) (omega (arith, length-reverse (t ∷ v))) in
+      take-all (suc (length v)) (reverse (t ∷ v)) (omega (arith, length-reverse (t ∷ v))) in
       let front : longest-within ls (reverse v) (length v) ≡ longest-within ls (reverse (t ∷ v)) (length v) =
-            sym (within-front (reverse v) (t ∷ []) (length v) (omega (arith, length-reverse v)))
-            ∙ ap (λ (z : List ℕ). longest-within ls z (length v)) (sym (reverse-cons t v)) in
+      sym (within-front (reverse v) (t ∷ []) (length v) (omega (arith, length-reverse v)))
+      ∙ ap (λ (z : List ℕ). longest-within ls z (length v)) (sym (reverse-cons t v)) in
       ap₂ or-else (claim-is (t ∷ v) ∙ ap (stands-under ls) (sym whole)) (best-is v ∙ front)
 
 told-is : (o : Option ℕ) (n : ℕ) →
@@ -84,12 +84,13 @@ pub chosen-defined : (ls : List Opening) (t : Table) → Says t ls → t .k ≡ 
 unfolding defined
 chosen-defined ls t says k tokens =
     let words : (v : List ℕ) → word t v ≡ told ls (reverse v) = λ v.
-          sym (view-word t (reverse v) ∙ ap (word t) (reverse-reverse v)) ∙ says (reverse v) in
+    sym (view-word t (reverse v) ∙ ap (word t) (reverse-reverse v)) ∙ says (reverse v) in
     let p : List ℕ = become ls [] (take (longest ls) tokens) in
     let way : travel (word t) [] (take (t .k) tokens) ≡ reverse p =
-          ap (λ (n : ℕ). travel (word t) [] (take n tokens)) k ∙ travel-is ls (word t) words (take (longest ls) tokens) [] in
+    ap (λ (n : ℕ). travel (word t) [] (take n tokens)) k
+    ∙ travel-is ls (word t) words (take (longest ls) tokens) [] in
     let prize : best (word t) (reverse p) ≡ longest-within ls p (length p) =
-          best-is ls (word t) words (reverse p) ∙ ap₂ (longest-within ls) (reverse-reverse p) (length-reverse p) in
+    best-is ls (word t) words (reverse p) ∙ ap₂ (longest-within ls) (reverse-reverse p) (length-reverse p) in
     chosen-is t tokens ∙ ap (λ (v : List ℕ). told-of (best (word t) v) (length v)) way
     ∙ ap₂ told-of prize (length-reverse p) ∙ told-is (longest-within ls p (length p)) (length p)
 

@@ -1,13 +1,14 @@
 -- What `find` finds: the row itself, and after `insert` the new row or what was found before. Assumes nothing.
 use mathlib.Core.Path.{_≡_, refl, sym, _∙_, ap}
 use mathlib.Core.Bool.{Bool, true, false, cond, _&&_}
-use mathlib.Core.Option.{Option, none, some}
+use mathlib.Core.Option.{none, some}
 use mathlib.Core.List.{List, [], _∷_, _++_, List·Memᴰ·head}
 use Prim.Native.Nat.{ℕ, suc}
 use lib.ListN.{length}
 use lib.Dec.{eqb}
 use borrow.Author.Tests.{eq-eqb}
-use Rattle.laws.proofs.Members.{In, there}
+pub use Rattle.laws.proofs.Members.{In}
+use Rattle.laws.proofs.Members.{there}
 use Rattle.laws.proofs.Tests.{Test, same, apart, test, never}
 use Rattle.paper.specs.Rows.{Row, find}
 use Rattle.paper.specs.Checks.{before}
@@ -37,6 +38,7 @@ find-in (x ∷ rs) s t r e = go (test (x .from) s) (test (x .terminal) t) e (fin
   where
     later : In r rs × (r .from ≡ s) × (r .terminal ≡ t) → In r (x ∷ rs) × (r .from ≡ s) × (r .terminal ≡ t)
     later k = (there (k .0), k .1, k .2)
+
     go : Test (x .from) s (eqb (x .from) s) → Test (x .terminal) t (eqb (x .terminal) t) →
         cond (is-for x s t) (some x) (find rs s t) ≡ some r →
         (find rs s t ≡ some r → In r rs × (r .from ≡ s) × (r .terminal ≡ t)) →
@@ -71,12 +73,15 @@ find-insert-here r (x ∷ xs) h = go (before r x) (find-insert-here r xs)
   where
     s : ℕ
     s = r .from
+
     t : ℕ
     t = r .terminal
+
     next : (c : Bool) → (find xs s t ≡ none → find (insert r xs) s t ≡ some r) →
         cond c (some x) (find xs s t) ≡ none → cond c (some x) (find (insert r xs) s t) ≡ some r
     next true ih k = absurd (never (sym k))
     next false ih k = ih k
+
     go : (c : Bool) → (find xs s t ≡ none → find (insert r xs) s t ≡ some r) →
         find (cond c (r ∷ x ∷ xs) (x ∷ insert r xs)) s t ≡ some r
     go true ih = rw is-for-self

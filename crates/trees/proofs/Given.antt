@@ -33,6 +33,7 @@ module _ (f f′ : Finder) (s : ℕ) (q : Option ℕ) (h : (a b : ℕ) → f′ 
       row : (o : Option Row) → seat-of (painted s q o) ≡ reseat s q (seat-of o)
       row none = refl
       row (some r) = refl
+
       go : (o : Option Seat) → onward f′ (reseat s q o) t ≡ reseat s q (onward f o t)
       go none = refl
       go (some x) = ap seat-of (h (x .state) t) ∙ row (f (x .state) t)

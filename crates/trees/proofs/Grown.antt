@@ -54,19 +54,24 @@ module _ (p : Option ℕ) (f f′ : Finder) (w₀ : List ℕ) (x₀ : Seat) (t�
     where
       step : Finder → Option Seat → Option Seat
       step h o = onward h o t
+
       on : t ∷ w ≡ t₀ ∷ w₀ → ((w ≡ t₀ ∷ w₀ → ⊥) → path p f′ w ≡ path p f w) → path p f′ (t ∷ w) ≡ some (sit r)
       on e ih =
           let e₁ : w ≡ w₀ = cc in
           let e₂ : t ≡ t₀ = cc in
           let a : path p f′ w ≡ some x₀ = ih (longer w e₁) ∙ ap (path p f) e₁ ∙ g .at₀ in
           onward-some f′ (path p f′ w) t x₀ a r (ap (f′ (x₀ .state)) e₂ ∙ g .here)
+
       past : (o : Option Seat) → path p f w ≡ o → path p f′ w ≡ path p f w → (t ∷ w ≡ t₀ ∷ w₀ → ⊥) →
           path p f′ (t ∷ w) ≡ path p f (t ∷ w)
       past none e ih h = ap (step f′) (ih ∙ e) ∙ sym (ap (step f) e)
       past (some y) e ih h =
-          let other : f′ (y .state) t ≡ f (y .state) t = ⊎-elim (λ k. k)
-                (λ k. absurd (h (cc (unique p f (g .tree) w w₀ y x₀ e (g .at₀) (k .0), k .1)))) (same-at (y .state) t) in
+          let other : f′ (y .state) t ≡ f (y .state) t = ⊎-elim
+          (λ k. k)
+          (λ k. absurd (h (cc (unique p f (g .tree) w w₀ y x₀ e (g .at₀) (k .0), k .1))))
+          (same-at (y .state) t) in
           ap (step f′) (ih ∙ e) ∙ ap seat-of other ∙ sym (ap (step f) e)
+
       off : (t ∷ w ≡ t₀ ∷ w₀ → ⊥) → Dec (w ≡ t₀ ∷ w₀) → ((w ≡ t₀ ∷ w₀ → ⊥) → path p f′ w ≡ path p f w) →
           (w ≡ t₀ ∷ w₀ → path p f′ w ≡ some (sit r)) → path p f′ (t ∷ w) ≡ path p f (t ∷ w)
       off h (yes e) ih ih′ =
@@ -96,8 +101,10 @@ module _ (p : Option ℕ) (f f′ : Finder) (w₀ : List ℕ) (x₀ : Seat) (t�
     where
       There : ℕ → ℕ → Row → Type 0
       There s t x = (f s t ≡ some x) ⊎ ((s ≡ x₀ .state) × (t ≡ t₀) × (x ≡ r))
+
       up : (s t : ℕ) (r′ : Row) → f′ s t ≡ some r′ → s < r′ .to
       up s t r′ e = ⊎-elim (λ k. g .tree .up s t r′ k) (λ k. rw (k .0, k .2) (g .rise)) (row-at s t r′ e)
+
       one : (s t s′ t′ : ℕ) (r₁ r₂ : Row) → f′ s t ≡ some r₁ → f′ s′ t′ ≡ some r₂ → r₁ .to ≡ r₂ .to →
           (s ≡ s′) × (t ≡ t′)
       one s t s′ t′ r₁ r₂ e₁ e₂ e = go (row-at s t r₁ e₁) (row-at s′ t′ r₂ e₂)

@@ -1,7 +1,6 @@
 -- What adding a row and giving a production keep of a table, taking the second's rows keeps: k, the bounds, and that
 -- rows only grow in number. Assumes nothing.
-use mathlib.Core.Path.{_≡_, refl, sym, _∙_, ap, subst}
-use mathlib.Core.Bool.{true}
+use mathlib.Core.Path.{_≡_, refl, _∙_}
 use mathlib.Core.Option.{Option, none, some}
 use mathlib.Core.List.{List, [], _∷_}
 use Prim.Native.Nat.{ℕ, suc, _+_, _≤_}
@@ -40,7 +39,7 @@ pub data Keeps (P : Table → Type 0) : Ruling United → Type 0 where
 module _ (mode : Mode) (P P′ : Table → Type 0) (Q : Row → Type 0)
     (on-insert : (t : Table) (r : Row) (s : ℕ) → P t → Q r → P′ (with-row t r s))
     (on-give : (t : Table) (x r : Row) → In x (t .rows) → P t → Q r →
-        P′ (give (x .to) (merge mode (x .production) (r .production)) t)) where
+    P′ (give (x .to) (merge mode (x .production) (r .production)) t)) where
   row-keeps : (u : United) (r : Row) (o : Option Row) →
       find (u .table .rows) (matched (u .matches) (r .from)) (r .terminal) ≡ o → P (u .table) → Q r →
       Keeps P′ (take-row mode u r o)
@@ -49,7 +48,8 @@ module _ (mode : Mode) (P P′ : Table → Type 0) (Q : Row → Type 0)
   row-keeps u r (some x) e p q =
       go (taken mode (x .production) (r .production)) (taken-met mode (x .production) (r .production))
     where
-      go : (g : Ruling (Option ℕ)) → Met mode (x .production) (r .production) g → Keeps P′ (then g (λ z. accept (record {
+      go : (g : Ruling (Option ℕ)) → Met mode (x .production) (r .production) g →
+          Keeps P′ (then g (λ z. accept (record {
             table = give (x .to) z (u .table);
             matches = (r .to, x .to) ∷ u .matches;
           })))
@@ -62,15 +62,15 @@ module _ (mode : Mode) (P P′ : Table → Type 0) (Q : Row → Type 0)
 module _ (mode : Mode) (P : Table → Type 0) (Q : Row → Type 0)
     (on-insert : (t : Table) (r : Row) (s : ℕ) → P t → Q r → P (with-row t r s))
     (on-give : (t : Table) (x r : Row) → In x (t .rows) → P t → Q r →
-        P (give (x .to) (merge mode (x .production) (r .production)) t)) where
+    P (give (x .to) (merge mode (x .production) (r .production)) t)) where
   pub rows-keep : (rs : List Row) (u : United) → P (u .table) → ((r : Row) → In r rs → Q r) →
       Keeps P (take-rows mode u rs)
   unfolding take-rows
   rows-keep [] u p q = kept p
   rows-keep (r ∷ rs) u p q =
-      go (row-keeps mode P P Q on-insert on-give u r (find (u .table .rows) (matched (u .matches) (r .from)) (r .terminal)) refl p
-          (q r here))
-        (λ v p′. rows-keep rs v p′ (λ x i. q x (there i)))
+      go (row-keeps mode P P Q on-insert on-give u r
+      (find (u .table .rows) (matched (u .matches) (r .from)) (r .terminal)) refl p (q r here))
+      (λ v p′. rows-keep rs v p′ (λ x i. q x (there i)))
     where
       go : {g : Ruling United} → Keeps P g → ((v : United) → P (v .table) → Keeps P (take-rows mode v rs)) →
           Keeps P (then g (λ v. take-rows mode v rs))
@@ -94,14 +94,18 @@ pub keeps-rows : (mode : Mode) (n : ℕ) (rs : List Row) (u : United) → n ≤ 
     Keeps (λ t. n ≤ length (t .rows)) (take-rows mode u rs)
 keeps-rows mode n rs u l =
     rows-keep mode (λ t. n ≤ length (t .rows)) (λ r. Unit)
-      (λ t r s p q. omega (arith, p, length-insert (record {
+    (λ t r s p q. omega (
+      arith,
+      p,
+      length-insert (record {
         from = s;
         terminal = r .terminal;
         to = suc (length (t .rows));
         production = r .production;
-      }) (t .rows)))
-      (λ t x r i p q. omega (arith, p, length-give (x .to) (merge mode (x .production) (r .production)) t))
-      rs u l (λ r i. tt)
+      }) (t .rows),
+    ))
+    (λ t x r i p q. omega (arith, p, length-give (x .to) (merge mode (x .production) (r .production)) t))
+    rs u l (λ r i. tt)
 
 -- at most one row more for each row taken
 pub keeps-most : (mode : Mode) (rs : List Row) (n : ℕ) (u : United) → length (u .table .rows) ≤ n →
@@ -110,23 +114,28 @@ unfolding take-rows
 keeps-most mode [] n u l = kept {u = u} (omega arith)
 keeps-most mode (r ∷ rs) n u l =
     go (row-keeps mode (λ t. length (t .rows) ≤ n) (λ t. length (t .rows) ≤ suc n) (λ x. Unit)
-        (λ t x s p q. omega (arith, p, length-insert (record {
-          from = s;
-          terminal = x .terminal;
-          to = suc (length (t .rows));
-          production = x .production;
-        }) (t .rows)))
-        (λ t x y i p q. omega (arith, p, length-give (x .to) (merge mode (x .production) (y .production)) t))
-        u r (find (u .table .rows) (matched (u .matches) (r .from)) (r .terminal)) refl l tt)
-      (keeps-most mode rs (suc n))
+    (λ t x s p q. omega (
+      arith,
+      p,
+      length-insert (record {
+        from = s;
+        terminal = x .terminal;
+        to = suc (length (t .rows));
+        production = x .production;
+      }) (t .rows),
+    ))
+    (λ t x y i p q. omega (arith, p, length-give (x .to) (merge mode (x .production) (y .production)) t))
+    u r (find (u .table .rows) (matched (u .matches) (r .from)) (r .terminal)) refl l tt)
+    (keeps-most mode rs (suc n))
   where
     wider : {g : Ruling United} → Keeps (λ t. length (t .rows) ≤ suc n + length rs) g →
         Keeps (λ t. length (t .rows) ≤ n + suc (length rs)) g
     wider (kept {u = v} p) = kept {u = v} (omega arith)
     wider off = off
+
     go : {g : Ruling United} → Keeps (λ t. length (t .rows) ≤ suc n) g →
         ((v : United) → length (v .table .rows) ≤ suc n →
-          Keeps (λ t. length (t .rows) ≤ suc n + length rs) (take-rows mode v rs)) →
+        Keeps (λ t. length (t .rows) ≤ suc n + length rs) (take-rows mode v rs)) →
         Keeps (λ t. length (t .rows) ≤ n + suc (length rs)) (then g (λ v. take-rows mode v rs))
     go (kept {u} p) ih = wider (ih u p)
     go off ih = off
@@ -146,6 +155,7 @@ keeps-fits mode rs u f h = rows-keep mode Fits Row-fits insert-fits given-fits r
         production = r .production;
       }) (t .rows) q (f .rows);
     }
+
     given-fits : (t : Table) (x r : Row) → In x (t .rows) → Fits t → Row-fits r →
         Fits (give (x .to) (merge mode (x .production) (r .production)) t)
     given-fits t x r i f q =

@@ -1,3 +1,4 @@
+-- rows
 pub mod Find
 pub mod Rising
 pub mod Paint
@@ -5,31 +6,40 @@ pub mod Paths
 pub mod Grown
 pub mod Given
 pub mod Tree
-pub mod Words
-pub mod Built
+pub mod Insert
+-- the checks
 pub mod Counted
 pub mod Checked
 pub mod Fits
+-- build
+pub mod Words
+pub mod Built
 pub mod BuildSound
+pub mod Walk
+-- unite
 pub mod Order
 pub mod Took
-pub mod Matching
 pub mod Taken
+pub mod Matching
 pub mod Kept
 pub mod United
 pub mod UniteSound
-pub mod Predicts
-pub mod ListTests
-pub mod Defined
-pub mod Strings
-pub mod Tells
+pub mod Matches
+-- calls
+pub mod Accepted
+pub mod Calls
+-- states counted
 pub mod Counting
 pub mod States
+pub mod AcceptingStates
+-- string lists
+pub mod ListTests
+pub mod Strings
+pub mod Tells
 pub mod Beginnings
-pub mod Calls
+-- predict
+pub mod Predicts
+pub mod Defined
+-- demand 3
 pub mod Chained
 pub mod Reordering
-pub mod Walk
-pub mod Accepted
-pub mod AcceptingStates
-pub mod Matches

@@ -1,7 +1,7 @@
 -- The tests by which the definition of what lists define is made: begins, among, stands under. Assumes nothing.
 use mathlib.Core.Path.{_≡_, refl, sym, _∙_, ap, ap₂, subst}
 use mathlib.Core.Logic.{⊎-elim, _⊎_, inl, inr}
-use mathlib.Core.Bool.{Bool, true, false, cond, _&&_, _||_, false≢true}
+use mathlib.Core.Bool.{Bool, true, false, cond, false≢true}
 use mathlib.Core.Option.{Option, none, some}
 use mathlib.Core.List.{List, [], _∷_, _++_, append-nil, List·Memᴰ·head}
 use Prim.Native.Nat.{ℕ}
@@ -11,7 +11,7 @@ use Rattle.laws.proofs.Members.{In, here, there, nowhere, where-in}
 use Rattle.laws.proofs.Tests.{never}
 use Rattle.laws.proofs.Every.{first-of, second-of, or-cases, or-left, or-right}
 use Rattle.paper.specs.Lists.{Opening, begins, begins-one, begins-some, same-string, among, stands-under}
-use Rattle.trees.specs.Says.{told, Begins, Stands, Begun}
+use Rattle.trees.specs.Says.{Begins, Stands, Begun}
 
 -- ---- begins
 pub begins-sound : (p σ : List ℕ) → begins p σ ≡ true → Begins p σ
@@ -49,17 +49,17 @@ unfolding begins-some
 some-sound [] p e = absurd (false≢true e)
 some-sound (l ∷ ls) p e = ⊎-elim
     (λ k.
-      let (σ, i, b) = one-sound p (l .strings) k in
-      record { list = l; listed = here; string = σ; within = i; begins = b })
+    let (σ, i, b) = one-sound p (l .strings) k in
+    record { list = l; listed = here; string = σ; within = i; begins = b })
     (λ k.
-      let s = some-sound ls p k in
-      record {
-        list = s .list;
-        listed = there (s .listed);
-        string = s .string;
-        within = s .within;
-        begins = s .begins;
-      })
+    let s = some-sound ls p k in
+    record {
+      list = s .list;
+      listed = there (s .listed);
+      string = s .string;
+      within = s .within;
+      begins = s .begins;
+    })
     (or-cases (begins-one p (l .strings)) (begins-some ls p) e)
 
 pub some-complete : (ls : List Opening) (p : List ℕ) → Begun ls p → begins-some ls p ≡ true
@@ -67,7 +67,7 @@ unfolding begins-some
 some-complete [] p b = absurd (nowhere (b .listed))
 some-complete (l ∷ ls) p b = ⊎-elim
     (λ e. or-left (begins-one p (l .strings)) (begins-some ls p) (one-complete p (l .strings) (b .string)
-      (subst (λ (z : Opening). In (b .string) (z .strings)) e (b .within)) (b .begins)))
+    (subst (λ (z : Opening). In (b .string) (z .strings)) e (b .within)) (b .begins)))
     (λ j. or-right (begins-one p (l .strings)) (begins-some ls p) (some-complete ls p (record {
       list = b .list;
       listed = j;
@@ -85,7 +85,7 @@ same-string-sound [] (b ∷ σ) e = absurd (false≢true e)
 same-string-sound (a ∷ p) [] e = absurd (false≢true e)
 same-string-sound (a ∷ p) (b ∷ σ) e =
     ap₂ (λ (x : ℕ) (y : List ℕ). x ∷ y) (eqb-true a b (first-of (eqb a b) (same-string p σ) e))
-      (same-string-sound p σ (second-of (eqb a b) (same-string p σ) e))
+    (same-string-sound p σ (second-of (eqb a b) (same-string p σ) e))
 
 pub same-string-self : (p : List ℕ) → same-string p p ≡ true
 unfolding same-string

@@ -1,7 +1,7 @@
 -- What is known while the rows of the second table are taken, in either mode: every path in the rows taken so far has
 -- its match in the union, and the union says what the first and these rows say together. Assumes nothing.
 use mathlib.Core.Path.{_≡_, refl, sym, _∙_, ap}
-use mathlib.Core.Logic.{⊎-elim, _⊎_, inl, inr}
+use mathlib.Core.Logic.{⊎-elim, _⊎_}
 use mathlib.Core.Option.{Option, none, some}
 use mathlib.Core.List.{List, [], _∷_, _++_, List-discrete}
 use Prim.Native.Nat.{ℕ}
@@ -13,7 +13,7 @@ use Rattle.paper.specs.Rows.{Row, Table, find}
 use Rattle.paper.specs.Unite.{United, matched}
 use Rattle.trees.specs.Reach.{Seat, Finder, sit, Word, said}
 use Rattle.trees.specs.Views.{join}
-use Rattle.trees.proofs.Find.{is-for, is-for-self, is-for-other, find-left, find-right}
+use Rattle.trees.proofs.Find.{is-for-self, is-for-other, find-left, find-right}
 use Rattle.trees.proofs.Paths.{path, word, onward-some, onward-inv, Branching}
 use Rattle.trees.proofs.Grown.{Grown, grown-tree, grown-keeps, grown-here, grown-other, row-at}
 use Rattle.trees.proofs.Tree.{Tree}
@@ -40,10 +40,10 @@ module _ (mode : Mode) (a : List ℕ → Word) (pB : Option ℕ) (D : List Row) 
   start-of = ⊎-elim
       (λ e. ([], record { state = 0; production = pB }, refl, sym e))
       (λ k.
-        let (x, j, e₁, e₂) = k in
-        let (w, y, h₁, h₂) = i .led (x .from) (x .terminal) x e₁ in
-        let on : find D (y .state) (x .terminal) ≡ some x = ap (λ (z : ℕ). find D z (x .terminal)) h₂ ∙ e₁ in
-        (x .terminal ∷ w, sit x, onward-some (find D) (path pB (find D) w) (x .terminal) y h₁ x on, e₂))
+      let (x, j, e₁, e₂) = k in
+      let (w, y, h₁, h₂) = i .led (x .from) (x .terminal) x e₁ in
+      let on : find D (y .state) (x .terminal) ≡ some x = ap (λ (z : ℕ). find D z (x .terminal)) h₂ ∙ e₁ in
+      (x .terminal ∷ w, sit x, onward-some (find D) (path pB (find D) w) (x .terminal) y h₁ x on, e₂))
       (nx .known)
 
   not-there : (v : List ℕ) (y : Seat) → path pB (find D) v ≡ some y → r .to ≡ y .state → ⊥
@@ -98,14 +98,19 @@ module _ (mode : Mode) (a : List ℕ → Word) (pB : Option ℕ) (D : List Row) 
       where
         f′ : Finder
         f′ = find (D ++ (r ∷ []))
+
         new : List ℕ
         new = r .terminal ∷ w
+
         keeps : (v : List ℕ) (z : Seat) → path pB (find D) v ≡ some z → path pB f′ v ≡ some z
         keeps = grown-keeps pB (find D) f′ w y (r .terminal) r grown-D
+
         here : path pB f′ new ≡ some (sit r)
         here = grown-here pB (find D) f′ w y (r .terminal) r grown-D
+
         other : (v : List ℕ) → (v ≡ new → ⊥) → path pB f′ v ≡ path pB (find D) v
         other = grown-other pB (find D) f′ w y (r .terminal) r grown-D
+
         match : (v : List ℕ) (z : Seat) → path pB f′ v ≡ some z → Dec (v ≡ new) →
             (x : Seat) × (lead t′ v ≡ some x) × (x .state ≡ matched ((r .to, s′) ∷ u .matches) (z .state))
         match v z e (yes k) =
@@ -116,10 +121,11 @@ module _ (mode : Mode) (a : List ℕ → Word) (pB : Option ℕ) (D : List Row) 
             let (x, e₁, e₂) = i .match v z d in
             let (x′, e₃, e₄) = took .keeps v x e₁ in
             (x′, e₃, e₄ ∙ e₂ ∙ rw (ne-eqb (r .to) (z .state) (not-there v z d)))
+
         agree : (v : List ℕ) (p q : ℕ) → a v ≡ some (some p) → said (path pB f′ v) ≡ some (some q) →
             Dec (v ≡ new) → p ≡ q
         agree v p q e₁ e₂ (yes k) =
             let l : said (path pB f′ v) ≡ some (r .production) =
-                  ap (λ (z : List ℕ). said (path pB f′ z)) k ∙ ap said here in
+            ap (λ (z : List ℕ). said (path pB f′ z)) k ∙ ap said here in
             ag p q (ap a (sym k) ∙ e₁) (cc)
         agree v p q e₁ e₂ (no n) = i .agree v p q e₁ (ap said (sym (other v n)) ∙ e₂)

@@ -1,5 +1,6 @@
--- `give` gives one state another production, and nothing else: rows stay as many, rising, and are found. Assumes nothing.
-use mathlib.Core.Path.{_≡_, refl, sym, _∙_, ap, subst}
+-- `give` gives one state another production, and nothing else: rows stay as many, rising, and are found.
+-- Assumes nothing.
+use mathlib.Core.Path.{_≡_, refl, subst}
 use mathlib.Core.Bool.{Bool, true, false, cond}
 use mathlib.Core.Option.{Option, none, some}
 use mathlib.Core.List.{List, [], _∷_, map, Memᴰ·of-map}

@@ -2,7 +2,7 @@
 use mathlib.Core.Path.{_≡_, refl, sym, _∙_, ap}
 use mathlib.Core.Option.{Option, none, some}
 use mathlib.Core.List.{List, [], _∷_, reverse, reverseAux}
-use Prim.Native.Nat.{ℕ, suc, _≤_, _<_}
+use Prim.Native.Nat.{ℕ, _≤_, _<_}
 use native.Mathlib.Omega.{arith}
 use Rattle.laws.proofs.Tests.{never}
 use Rattle.paper.specs.Rows.{Row, Table, find}
@@ -87,7 +87,8 @@ module _ (p : Option ℕ) (f : Finder) (tree : Branching f) where
       let ih = unique w v z z′ e₁ e₁′ (same .0) in
       cc (same .1, ih)
 
-pub low : (p : Option ℕ) (f : Finder) (n : ℕ) → Capped f n → (w : List ℕ) (x : Seat) → path p f w ≡ some x → x .state ≤ n
+pub low : (p : Option ℕ) (f : Finder) (n : ℕ) → Capped f n → (w : List ℕ) (x : Seat) → path p f w ≡ some x →
+    x .state ≤ n
 unfolding path
 low p f n cap [] x e = let a : x .state ≡ 0 = cc in omega arith
 low p f n cap (t ∷ w) x e =
@@ -124,7 +125,7 @@ pub view-by-steps : (rs : List Row) (R : ℕ → Option ℕ → List ℕ → Wor
     ((s : ℕ) (p : Option ℕ) → R s p [] ≡ some p) →
     ((s : ℕ) (p : Option ℕ) (u : ℕ) (us : List ℕ) → find rs s u ≡ none → R s p (u ∷ us) ≡ none) →
     ((s : ℕ) (p : Option ℕ) (u : ℕ) (us : List ℕ) (r : Row) → find rs s u ≡ some r →
-      R s p (u ∷ us) ≡ R (r .to) (r .production) us) →
+    R s p (u ∷ us) ≡ R (r .to) (r .production) us) →
     (us : List ℕ) (s : ℕ) (p : Option ℕ) →
     said (all-onward (find rs) (some (record { state = s; production = p })) us) ≡ R s p us
 unfolding all-onward onward said seat-of
@@ -133,7 +134,7 @@ view-by-steps rs R ends stops goes (u ∷ us) s p = go (find rs s u) refl (view-
   where
     go : (o : Option Row) → find rs s u ≡ o →
         ((s : ℕ) (p : Option ℕ) →
-          said (all-onward (find rs) (some (record { state = s; production = p })) us) ≡ R s p us) →
+        said (all-onward (find rs) (some (record { state = s; production = p })) us) ≡ R s p us) →
         said (all-onward (find rs) (seat-of o) us) ≡ R s p (u ∷ us)
     go none e ih = ap said (all-onward-none (find rs) us) ∙ sym (stops s p u us e)
     go (some r) e ih = ih (r .to) (r .production) ∙ sym (goes s p u us r e)

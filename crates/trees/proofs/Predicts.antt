@@ -55,7 +55,8 @@ pub record Stands-at (t : Table) (p : List ℕ) (w : Walk) : Type 0 where
   pub last : or-else (w .last) (t .prod0) ≡ best (word t) p
 
 module _ (t : Table) (p : List ℕ) (w : Walk) (u : ℕ) (s : Stands-at t p w) where
-  one-step : (o : Option Row) → find (t .rows) (w .state) u ≡ o → Stands-at t (advance p u (word t (u ∷ p))) (go-by w o)
+  one-step : (o : Option Row) → find (t .rows) (w .state) u ≡ o →
+      Stands-at t (advance p u (word t (u ∷ p))) (go-by w o)
   unfolding go-by path said advance best claim word
   one-step none e =
       let f = find (t .rows) in
@@ -82,22 +83,22 @@ unfolding travel walk step
 walks t [] p w s = s
 walks t (u ∷ ts) p w s =
     walks t ts (advance p u (word t (u ∷ p))) (go-by w (find (t .rows) (w .state) u))
-      (one-step t p w u s (find (t .rows) (w .state) u) refl)
+    (one-step t p w u s (find (t .rows) (w .state) u) refl)
 
 pub chosen-is : (t : Table) (tokens : List ℕ) →
-    chosen Intake t tokens
-    ≡ told-of (best (word t) (travel (word t) [] (take (t .k) tokens))) (length (travel (word t) [] (take (t .k) tokens)))
+    let p = travel (word t) [] (take (t .k) tokens) in
+    chosen Intake t tokens ≡ told-of (best (word t) p) (length p)
 unfolding chosen start path best claim said or-else word
 chosen-is t tokens =
     let ts = take (t .k) tokens in
     let w = walk (t .rows) ts start in
     let s = walks t ts [] start (record {
-          seat = record { state = 0; production = t .prod0 };
-          at = refl;
-          is = refl;
-          count = refl;
-          last = refl;
-        }) in
+      seat = record { state = 0; production = t .prod0 };
+      at = refl;
+      is = refl;
+      count = refl;
+      last = refl;
+    }) in
     answer-is (t .prod0) (w .last) (w .entered) ∙ ap₂ told-of (s .last) (s .count)
 
 -- Two tables with one view and one k give one answer.
@@ -105,10 +106,10 @@ pub chosen-by-view : (t u : Table) → ((σ : List ℕ) → view t σ ≡ view u
     chosen Intake t tokens ≡ chosen Intake u tokens
 chosen-by-view t u h k tokens =
     let words : (v : List ℕ) → word t v ≡ word u v = λ v.
-          sym (view-word t (reverse v) ∙ ap (word t) (reverse-reverse v)) ∙ h (reverse v)
-          ∙ view-word u (reverse v) ∙ ap (word u) (reverse-reverse v) in
+    sym (view-word t (reverse v) ∙ ap (word t) (reverse-reverse v)) ∙ h (reverse v)
+    ∙ view-word u (reverse v) ∙ ap (word u) (reverse-reverse v) in
     let D : word t ≡ word u = fun-ext words in
     chosen-is t tokens
     ∙ ap₂ (λ (E : List ℕ → Word) (n : ℕ).
-        told-of (best E (travel E [] (take n tokens))) (length (travel E [] (take n tokens)))) D k
+    told-of (best E (travel E [] (take n tokens))) (length (travel E [] (take n tokens)))) D k
     ∙ sym (chosen-is u tokens)

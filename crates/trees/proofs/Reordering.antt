@@ -1,21 +1,23 @@
 -- The order of the lists changes no answer: neither what they say, nor what the chain of calls comes to.
 -- Assumes nothing.
 use mathlib.Core.Path.{_≡_, refl, sym, _∙_, ap, ap₂}
-use mathlib.Core.Logic.{⊎-elim, _⊎_, inl, inr}
+use mathlib.Core.Logic.{⊎-elim, _⊎_}
 use mathlib.Core.Bool.{Bool, true, false, cond, false≢true}
 use mathlib.Core.Option.{Option, none, some}
-use mathlib.Core.List.{List, [], _∷_}
-use mathlib.Core.List.{Memᴰ·cast}
-use Prim.Native.Nat.{ℕ, _≤_}
+use mathlib.Core.List.{List, [], _∷_, _++_, List·Memᴰ·head, Memᴰ·cast, List·Permᴰ, List·Permᴰ·nil, List·Permᴰ·cons}
+use mathlib.Core.List.{List·Permᴰ·swap, List·Permᴰ·trans, Permᴰ·symm}
+use Prim.Native.Nat.{ℕ, zero, suc, _≤_}
 use native.Mathlib.Omega.{arith}
-use lib.ListN.{length}
+use lib.ListN.{length, take}
 use Rattle.laws.proofs.Members.{In, here, there, nowhere, where-in}
-use Rattle.paper.specs.Answers.{Ruling, Made}
-use Rattle.paper.specs.Lists.{Opening, begins-some, stands-under, longest-string, longest, all-beginnings, distinct}
+use Rattle.paper.specs.Answers.{Ruling, accept, then, Made, Chosen}
+use Rattle.paper.specs.Predict.{or-else}
+use Rattle.paper.specs.Lists.{Opening, begins-some, stands-under, become, longest-within, longest-string, longest}
+use Rattle.paper.specs.Lists.{or-none, defined, all-beginnings, distinct}
 use Rattle.trees.specs.Reach.{view}
 use Rattle.trees.specs.Bounds.{Bounded}
-use Rattle.trees.specs.Says.{told, Stands, Begun}
-use Rattle.trees.specs.Chain.{chain, Conflict, United-lists, Chained, united, clashed, Reordered, Same}
+use Rattle.trees.specs.Says.{told, Stands, foretold}
+use Rattle.trees.specs.Chain.{chain, Conflict, United-lists, Chained, united, clashed, Reordered}
 use Rattle.trees.specs.Chain.{Same-end, both-united, both-clashed}
 use Rattle.trees.proofs.Predicts.{chosen-by-view}
 use Rattle.trees.proofs.ListTests.{some-sound, some-complete, under-sound, under-none}
@@ -57,9 +59,12 @@ module _ (ls ls′ : List Opening) (o : Reordered ls ls′) where
     where
       forth : begins-some ls σ ≡ true → begins-some ls′ σ ≡ true
       forth e = some-complete ls′ σ (begun-more ls ls′ (o .there) σ (some-sound ls σ e))
+
       back : begins-some ls′ σ ≡ true → begins-some ls σ ≡ true
       back e = some-complete ls σ (begun-more ls′ ls (o .back) σ (some-sound ls′ σ e))
-      go : (a : Bool) → begins-some ls σ ≡ a → (b : Bool) → begins-some ls′ σ ≡ b → begins-some ls σ ≡ begins-some ls′ σ
+
+      go : (a : Bool) → begins-some ls σ ≡ a → (b : Bool) → begins-some ls′ σ ≡ b →
+          begins-some ls σ ≡ begins-some ls′ σ
       go true e b f = e ∙ sym (forth e)
       go false e true f = absurd (false≢true (sym e ∙ back f))
       go false e false f = e ∙ sym f
@@ -81,6 +86,31 @@ module _ (ls ls′ : List Opening) (o : Reordered ls ls′) where
     unfolding told
     told-same σ = rw (begins-same σ, under-same σ)
 
+    become-same : (ts p : List ℕ) → become ls p ts ≡ become ls′ p ts
+    unfolding become
+    become-same [] p = refl
+    become-same (t ∷ ts) p =
+        let next : List Opening → List ℕ = λ ms. cond (begins-some ms (p ++ (t ∷ []))) (p ++ (t ∷ [])) p in
+        become-same ts (next ls)
+        ∙ ap (λ (b : Bool). become ls′ (cond b (p ++ (t ∷ [])) p) ts) (begins-same (p ++ (t ∷ [])))
+
+    within-same : (p : List ℕ) (n : ℕ) → longest-within ls p n ≡ longest-within ls′ p n
+    unfolding longest-within
+    within-same p zero = under-same []
+    within-same p (suc n) = ap₂ or-else (under-same (take (suc n) p)) (within-same p n)
+
+    -- what the lists define
+    pub foretold-same : (tokens : List ℕ) → foretold ls tokens ≡ foretold ls′ tokens
+    unfolding defined
+    foretold-same tokens =
+        let p : List ℕ = become ls [] (take (longest ls) tokens) in
+        let p′ : List ℕ = become ls′ [] (take (longest ls′) tokens) in
+        let way : p ≡ p′ = become-same (take (longest ls) tokens) []
+        ∙ ap (λ (n : ℕ). become ls′ [] (take n tokens)) longest-same in
+        let answer : List ℕ → Option ℕ → Ruling Chosen = λ z o.
+        then (or-none o) (λ q. accept (record { production = q; entered = length z })) in
+        ap₂ answer way (within-same p (length p) ∙ ap (λ (z : List ℕ). longest-within ls′ z (length z)) way)
+
   conflict-same : (p q : ℕ) → Conflict ls p q → Conflict ls′ p q
   conflict-same p q c = record {
     string = c .string;
@@ -99,7 +129,7 @@ same-end : (ls ls′ : List Opening) → Reordered ls ls′ → {g g′ : Ruling
     Same-end g g′
 same-end ls ls′ o (united {m} u) (united {m = m′} u′) =
     let views : (σ : List ℕ) → view (m .table) σ ≡ view (m′ .table) σ =
-          λ σ. u .says σ ∙ told-same ls ls′ o (u .one-number) σ ∙ sym (u′ .says σ) in
+    λ σ. u .says σ ∙ told-same ls ls′ o (u .one-number) σ ∙ sym (u′ .says σ) in
     let k : m .table .k ≡ m′ .table .k = u .longest ∙ longest-same ls ls′ o ∙ sym (u′ .longest) in
     both-united (record {
       views = views;
@@ -118,4 +148,17 @@ pub any-order : (l : Opening) (ls : List Opening) (l′ : Opening) (ls′ : List
     length (distinct (all-beginnings (l ∷ ls))) ≤ 1024 → Same-end (chain l ls) (chain l′ ls′)
 any-order l ls l′ ls′ o bd bound =
     same-end (l ∷ ls) (l′ ∷ ls′) o (chain-good l ls bd bound)
-      (chain-good l′ ls′ (λ m i. bd m (o .back m i)) (omega (arith, bound, beginnings-same (l ∷ ls) (l′ ∷ ls′) o)))
+    (chain-good l′ ls′ (λ m i. bd m (o .back m i)) (omega (arith, bound, beginnings-same (l ∷ ls) (l′ ∷ ls′) o)))
+
+-- ---- a permutation is such an order
+perm-in : {A : Type 0} {a : A} {xs ys : List A} → List·Permᴰ xs ys → In a xs → In a ys
+perm-in List·Permᴰ·nil i = i
+perm-in (List·Permᴰ·cons e d) i = ⊎-elim (λ k. List·Memᴰ·head (k ∙ e)) (λ j. there (perm-in d j)) (where-in i)
+perm-in (List·Permᴰ·swap e f) i = ⊎-elim
+    (λ k. there (List·Memᴰ·head (k ∙ e)))
+    (λ j. ⊎-elim (λ k. List·Memᴰ·head (k ∙ f)) (λ m. there (there m)) (where-in j))
+    (where-in i)
+perm-in (List·Permᴰ·trans d c) i = perm-in c (perm-in d i)
+
+pub permuted : {ls ls′ : List Opening} → List·Permᴰ ls ls′ → Reordered ls ls′
+permuted d = record { there = λ l i. perm-in d i; back = λ l i. perm-in (Permᴰ·symm d) i }

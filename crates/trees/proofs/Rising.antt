@@ -1,21 +1,30 @@
 -- Rows that rise by (from, terminal): `insert` keeps them rising, each is found, and a part of them rises.
 -- Assumes nothing.
-use mathlib.Core.Path.{_≡_, refl, sym, _∙_, ap, subst}
+use mathlib.Core.Path.{_≡_, refl, sym, _∙_, subst}
 use mathlib.Core.Logic.{⊎-elim, _⊎_, inl, inr}
-use mathlib.Core.Bool.{Bool, true, false, cond, _&&_, false≢true}
+use mathlib.Core.Bool.{Bool, true, false, cond, false≢true}
 use mathlib.Core.Option.{Option, none, some}
-use mathlib.Core.List.{List, [], _∷_, _++_, map, List·Memᴰ·head}
+use mathlib.Core.List.{List, [], _∷_, _++_, List·Memᴰ·head}
 use mathlib.Core.List.{Memᴰ·append-left, Memᴰ·append-right}
-use Prim.Native.Nat.{ℕ, _<_}
 use native.Mathlib.Omega.{arith}
 use lib.Dec.{eqb, ltb}
 use Rattle.laws.proofs.Members.{In, here, there, nowhere, where-in}
 use Rattle.laws.proofs.Tests.{Test, same, apart, test, Below, is-below, not-below, below?, never}
-use Rattle.laws.proofs.RowsRise.{Before, RowsRise, rows-nil, rows-cons}
+use Rattle.laws.proofs.RowsRise.{Before, RowsRise, rows-nil, rows-cons, rise-rising, rising-rise}
 use Rattle.paper.specs.Rows.{Row, find}
-use Rattle.paper.specs.Checks.{before}
+use Rattle.paper.specs.Checks.{before, rising}
 use Rattle.paper.specs.Build.{insert}
 use Rattle.trees.proofs.Find.{is-for, is-for-self, is-for-other}
+
+-- Names for the shared laws.
+abbrev pub Rising : List Row → Type 0
+Rising rs = RowsRise rs
+
+pub rising-true : (rs : List Row) → Rising rs → rising rs ≡ true
+rising-true rs h = rise-rising rs h
+
+pub true-rising : (rs : List Row) → rising rs ≡ true → Rising rs
+true-rising rs e = rising-rise rs e
 
 pub before-trans : (a b c : Row) → Before a b → Before b c → Before a c
 before-trans a b c (inl p) (inl q) = inl (omega arith)
@@ -72,13 +81,17 @@ rising-insert r (y ∷ ys) (rows-cons h s) e =
   where
     f : Option Row
     f = find ys (r .from) (r .terminal)
+
     with-r : Before r y → (x : Row) → In x (y ∷ ys) → Before r x
     with-r p x i = ⊎-elim (λ k. subst (λ (z : Row). Before r z) (sym k) p)
         (λ j. before-trans r y x p (h x j)) (where-in i)
+
     with-y : Before y r → (x : Row) → In x (insert r ys) → Before y x
     with-y p x i = ⊎-elim (λ k. subst (λ (z : Row). Before y z) (sym k) p) (λ j. h x j) (in-insert r ys x i)
+
     taken : (r .from ≡ y .from) × (r .terminal ≡ y .terminal) → is-for y (r .from) (r .terminal) ≡ true
     taken p = rw (p .0, p .1) (is-for-self y)
+
     go : Order r y (before r y) → (b : Bool) → is-for y (r .from) (r .terminal) ≡ b → cond b (some y) f ≡ none →
         (f ≡ none → RowsRise (insert r ys)) → RowsRise (cond (before r y) (r ∷ y ∷ ys) (y ∷ insert r ys))
     go o true k l ih = absurd (never (sym l))
@@ -94,19 +107,22 @@ in-find (x ∷ rs) r (rows-cons h k) i = go (where-in i) (in-find rs r k)
   where
     found : Row → Type 0
     found z = cond (is-for x (z .from) (z .terminal)) (some x) (find rs (z .from) (z .terminal)) ≡ some z
+
     go : (r ≡ x) ⊎ In r rs → (In r rs → find rs (r .from) (r .terminal) ≡ some r) → found r
     go (inl e) ih = subst found (sym e) (rw is-for-self)
     go (inr j) ih = rw (is-for-other x (r .from) (r .terminal) (not-before-itself x r (h r j))) (ih j)
 
 -- ---- a part of rising rows
-pub before-last : (D : List Row) (r : Row) (rest : List Row) → RowsRise (D ++ r ∷ rest) → (x : Row) → In x D → Before x r
+pub before-last : (D : List Row) (r : Row) (rest : List Row) → RowsRise (D ++ r ∷ rest) →
+    (x : Row) → In x D → Before x r
 before-last [] r rest h x i = absurd (nowhere i)
 before-last (d ∷ D) r rest (rows-cons h k) x i = ⊎-elim
     (λ e. subst (λ (z : Row). Before z r) (sym e) (h r (Memᴰ·append-right D here)))
     (λ j. before-last D r rest k x j)
     (where-in i)
 
-pub after-last : (D : List Row) (r : Row) (rest : List Row) → RowsRise (D ++ r ∷ rest) → (x : Row) → In x rest → Before r x
+pub after-last : (D : List Row) (r : Row) (rest : List Row) → RowsRise (D ++ r ∷ rest) →
+    (x : Row) → In x rest → Before r x
 after-last [] r rest (rows-cons h k) x i = h x i
 after-last (d ∷ D) r rest (rows-cons h k) x i = after-last D r rest k x i
 

@@ -1,4 +1,5 @@
--- Each state of a tree has one path: so a tree has as many states as strings that begin led-back. Assumes nothing.
+-- Each state of a tree has one path: so a tree has as many states as strings that lead somewhere in it.
+-- Assumes nothing.
 use mathlib.Core.Path.{_≡_, refl, sym, _∙_, ap}
 use mathlib.Core.Option.{Option, none, some}
 use mathlib.Core.List.{List, [], _∷_, reverse, reverse-reverse}
@@ -8,7 +9,7 @@ use lib.ListN.{length}
 use lib.Dec.{eqb}
 use Rattle.laws.proofs.Members.{In}
 use Rattle.laws.proofs.Tests.{Test, same, apart, test, never}
-use Rattle.paper.specs.Rows.{Row, Table, find}
+use Rattle.paper.specs.Rows.{Table, find}
 use Rattle.trees.specs.Reach.{Seat, sit, said, view}
 use Rattle.trees.specs.Accepting.{Apart}
 use Rattle.trees.proofs.Paths.{path, word, view-word, onward-some, unique, low}
@@ -45,6 +46,7 @@ module _ (t : Table) (tr : Tree (t .rows)) where
       let z : x ≡ y = cc in
       sym h ∙ ap (λ (q : Seat). q .state) z ∙ k
 
+  -- and one string leads to each state
   pub one-string : (σ τ : List ℕ) (i : ℕ) → Led t i (reverse σ) → Led t i (reverse τ) → σ ≡ τ
   unfolding Led
   one-string σ τ i a b =
@@ -56,13 +58,13 @@ module _ (t : Table) (tr : Tree (t .rows)) where
   back : (v : List ℕ) → view t (reverse v) ≡ word t v
   back v = view-word t (reverse v) ∙ ap (word t) (reverse-reverse v)
 
-  -- all strings that begin led-back are in the list bs
+  -- all strings that lead somewhere are in the list bs
   pub states-le : (bs : List (List ℕ)) → ((σ : List ℕ) (x : Option ℕ) → view t σ ≡ some x → In σ bs) →
       suc (length (t .rows)) ≤ length bs
   unfolding Led word said
   states-le bs h =
       let n = into-le (λ i σ. Led t i (reverse σ)) (λ i j σ a b. same-state (reverse σ) i j a b)
-            (upto (suc (length (t .rows)))) bs (apart-upto (suc (length (t .rows)))) all in
+      (upto (suc (length (t .rows)))) bs (apart-upto (suc (length (t .rows)))) all in
       omega (arith, n, length-upto (suc (length (t .rows))))
     where
       all : (i : ℕ) → In i (upto (suc (length (t .rows)))) → (σ : List ℕ) × Led t i (reverse σ) × In σ bs
@@ -73,7 +75,7 @@ module _ (t : Table) (tr : Tree (t .rows)) where
           let led-back : Led t i (reverse (reverse v)) = (x, ap (lead t) (reverse-reverse v) ∙ e₁, e₂) in
           (reverse v, led-back, h (reverse v) (x .production) (back v ∙ ap said e₁))
 
-  -- all strings of the list bs begin led-back, and none stands twice
+  -- all strings of the list bs lead somewhere, and none stands twice
   pub le-states : (bs : List (List ℕ)) → Apart bs →
       ((σ : List ℕ) → In σ bs → (x : Option ℕ) × (view t σ ≡ some x)) → length bs ≤ suc (length (t .rows))
   unfolding Led word said
@@ -84,6 +86,7 @@ module _ (t : Table) (tr : Tree (t .rows)) where
       seated : (o : Option Seat) (x : Option ℕ) → said o ≡ some x → (y : Seat) × (o ≡ some y)
       seated none x e = absurd (never e)
       seated (some y) x e = (y, refl)
+
       all : (σ : List ℕ) → In σ bs → (i : ℕ) × Led t i (reverse σ) × In i (upto (suc (length (t .rows))))
       all σ j =
           let (x, e) = h σ j in

@@ -1,5 +1,5 @@
 -- The words of strings: a string is claimed under its production, and its beginnings are beginnings. Assumes nothing.
-use mathlib.Core.Path.{_≡_, refl, sym, _∙_, ap, subst}
+use mathlib.Core.Path.{_≡_, refl, sym, _∙_, ap}
 use mathlib.Core.Logic.{⊎-elim, _⊎_, inl, inr}
 use mathlib.Core.Option.{Option, none, some}
 use mathlib.Core.List.{List, [], _∷_, _++_, append-nil, reverse, reverseAux, reverse-reverse, List-discrete}
@@ -76,6 +76,7 @@ module _ (q : ℕ) where
     where
       back : reverse p ≡ reverse σ → p ≡ σ
       back h = sym (reverse-reverse p) ∙ ap reverse h ∙ reverse-reverse σ
+
       go : Dec (reverse p ≡ reverse σ) →
           (along [] σ (reverse p) ≡ some (some q′)) ⊎ (only (reverse σ) (some q) (reverse p) ≡ some (some q′)) →
           (p ≡ σ) × (q ≡ q′)
@@ -97,8 +98,10 @@ module _ (q : ℕ) where
     where
       back : (a : List ℕ) → reverse p ≡ reverse a → a ≡ p
       back a h = sym (reverse-reverse a) ∙ ap reverse (sym h) ∙ reverse-reverse p
+
       Some : Word → Type 0
       Some y = (a : Option ℕ) × (y ≡ some a)
+
       go : Dec (reverse p ≡ reverse σ) → Some (along [] σ (reverse p)) ⊎ Some (only (reverse σ) (some q) (reverse p)) →
           Begins p σ
       go d (inl k) =
@@ -132,10 +135,10 @@ module _ (q : ℕ) where
       let x : Word = string-word q τ (reverse σ) in
       let y : Word = strings-word q σs (reverse σ) in
       ⊎-elim
-        (λ e. claim-left x y q (ap (λ (z : List ℕ). string-word q τ (reverse z)) e ∙ string-here τ)
-          (λ q′ k. strings-claim σs σ q′ k .0))
-        (λ j. claim-right x y q (strings-stand σs σ j))
-        (where-in i)
+      (λ e. claim-left x y q (ap (λ (z : List ℕ). string-word q τ (reverse z)) e ∙ string-here τ)
+      (λ q′ k. strings-claim σs σ q′ k .0))
+      (λ j. claim-right x y q (strings-stand σs σ j))
+      (where-in i)
 
   pub strings-dom : (σs : List (List ℕ)) (p : List ℕ) (x : Option ℕ) → strings-word q σs (reverse p) ≡ some x →
       (σ : List ℕ) × In σ σs × Begins p σ
@@ -154,8 +157,8 @@ module _ (q : ℕ) where
       let x : Word = string-word q τ (reverse p) in
       let y : Word = strings-word q σs (reverse p) in
       ⊎-elim
-        (λ e.
-          let (z, k) = string-begun p (b .0) n in
-          join-left x y z (ap (λ (z : List ℕ). string-word q z (reverse p)) (sym e ∙ b .1) ∙ k))
-        (λ j. let (z, k) = strings-begun σs σ p j b n in join-right x y z k)
-        (where-in i)
+      (λ e.
+      let (z, k) = string-begun p (b .0) n in
+      join-left x y z (ap (λ (z : List ℕ). string-word q z (reverse p)) (sym e ∙ b .1) ∙ k))
+      (λ j. let (z, k) = strings-begun σs σ p j b n in join-right x y z k)
+      (where-in i)

@@ -1,11 +1,10 @@
--- The production that a matched state takes, in either mode: the merged one, unless both accept under different numbers.
--- Assumes nothing.
-use mathlib.Core.Path.{_≡_, refl, sym, _∙_, ap}
+-- The production that a matched state takes, in either mode: the merged one, unless both accept under different
+-- numbers. Assumes nothing.
+use mathlib.Core.Path.{_≡_, refl}
 use mathlib.Core.Bool.{true, cond}
 use mathlib.Core.Option.{Option, none, some}
-use mathlib.Core.List.{List, [], _∷_}
+use mathlib.Core.List.{[], _∷_}
 use Prim.Native.Nat.{ℕ}
-use native.Mathlib.Omega.{arith}
 use lib.Dec.{eqb}
 use Rattle.laws.proofs.Tests.{Test, same, apart, test, never}
 use Rattle.paper.specs.declared.Mode.{Mode}

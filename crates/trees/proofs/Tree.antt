@@ -1,7 +1,7 @@
 -- Trees, as rows: `insert` of a row to the next number and `give` keep them. Assumes nothing.
-use mathlib.Core.Path.{_≡_, refl, sym, _∙_, ap, ap₂}
+use mathlib.Core.Path.{_≡_, sym, _∙_, ap, ap₂}
 use mathlib.Core.Option.{Option, none, some}
-use mathlib.Core.List.{List, [], _∷_, map}
+use mathlib.Core.List.{List, [], map}
 use Prim.Native.Nat.{ℕ, suc, _≤_, _<_}
 use native.Mathlib.Omega.{arith}
 use lib.ListN.{length, length-map}
@@ -69,15 +69,17 @@ module _ (p : Option ℕ) (rs : List Row) (w : List ℕ) (x : Seat) (t : ℕ) (q
     where
       r : Row
       r = next-row rs (x .state) t q
+
       f′ : Finder
       f′ = find (insert r rs)
+
       onto : (n : ℕ) → 0 < n → Test n (suc (length rs)) (eqb n (suc (length rs))) → n ≤ suc (length rs) →
           (s : ℕ) × (u : ℕ) × (y : Row) × (f′ s u ≡ some y) × (y .to ≡ n)
       onto n l (same k _) h = (x .state, t, r, find-insert-here r rs new, sym k)
       onto n l (apart k _) h =
           let (s, u, y, e₁, e₂) = tr .onto n l (omega arith) in
           let off : (s ≡ x .state) × (u ≡ t) → ⊥ =
-                λ k′. never (sym new ∙ ap₂ (find rs) (sym (k′ .0)) (sym (k′ .1)) ∙ e₁) in
+          λ k′. never (sym new ∙ ap₂ (find rs) (sym (k′ .0)) (sym (k′ .1)) ∙ e₁) in
           (s, u, y, find-insert-other r rs s u off ∙ e₁, e₂)
 
 pub tree-paint : (s : ℕ) (q : Option ℕ) (rs : List Row) → Tree rs → Tree (map (paint s q) rs)

@@ -1,25 +1,25 @@
--- Two tables that pass the checks for trees, united in either mode: what is accepted passes them again, and says what the
--- two say together; it is refused by 8 exactly where they disagree. Assumes nothing.
+-- Two tables that pass the checks for trees, united in either mode: what is accepted passes them again, and says what
+-- the two say together; it is refused by 8 exactly where they disagree. Assumes nothing.
 use mathlib.Core.Path.{_≡_, refl, sym, _∙_, ap}
 use mathlib.Core.Bool.{Bool, true, false, cond}
-use mathlib.Core.Option.{Option, none, some}
-use mathlib.Core.List.{List, [], _∷_, reverse, reverse-reverse}
+use mathlib.Core.Option.{Option}
+use mathlib.Core.List.{List, [], reverse, reverse-reverse}
 use Prim.Native.Nat.{ℕ, suc, _≤_}
 use native.Mathlib.Omega.{arith}
 use lib.ListN.{length}
 use lib.Dec.{ltb}
 use Rattle.paper.specs.declared.Mode.{Mode}
 use Rattle.paper.specs.declared.Mode.the-variants.{Archive, Intake}
-use Rattle.paper.specs.Rows.{Row, Table}
+use Rattle.paper.specs.Rows.{Table}
 use Rattle.paper.specs.Answers.{Ruling, accept, refuse, then, Made}
 use Rattle.paper.specs.Checks.{production-fits, range}
 use borrow.Author.Tests.{ltb-false}
 use Rattle.paper.specs.Build.{within}
 use Rattle.paper.specs.Unite.{root, united-k, United, take-rows, united}
-use Rattle.trees.specs.Reach.{Word, view}
-use Rattle.trees.specs.Views.{merge, join, seen}
+use Rattle.trees.specs.Reach.{view}
+use Rattle.trees.specs.Views.{seen}
 use Rattle.trees.specs.Trees.{Treed, Sound}
-use Rattle.trees.specs.Unions.{as-seen, Agreed, Union, Unites}
+use Rattle.trees.specs.Unions.{as-seen, Union, Unites}
 use Rattle.trees.specs.Unions as unions
 use Rattle.trees.proofs.Paths.{word, view-word}
 use Rattle.trees.proofs.Checked.{tree-passes, passes-tree}
@@ -91,14 +91,17 @@ united-fits mode A B a b = go (root mode (A .prod0) (B .prod0)) (root-met mode (
   where
     k : ℕ
     k = united-k mode (A .k) (B .k)
+
     pB : Option ℕ
     pB = seen mode (A .prod0) (B .prod0)
+
     rest : {g : Ruling United} → Keeps Fits g → Holds Fits (then g (λ u. within (u .table)))
     rest (kept {u} f) = within-holds Fits (u .table) f
     rest off = refused
+
     go : (g : Ruling (Option ℕ)) → Met mode (A .prod0) pB g → Holds Fits (then g (λ p.
         then (take-rows mode (record { table = record { prod0 = p; k = k; rows = A .rows }; matches = [] }) (B .rows))
-          (λ u. within (u .table))))
+        (λ u. within (u .table))))
     go g (met h) = rest (keeps-fits mode (B .rows) _ (record {
       root = merge-fits mode (A .prod0) pB (a .root) (seen-fits mode (A .prod0) (B .prod0) (a .root) (b .root));
       short = k-fits mode (A .k) (B .k) (a .short) (b .short);

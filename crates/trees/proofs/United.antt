@@ -1,11 +1,10 @@
--- Two trees united, in either mode: a tree that says what the two say together; refused by 8 exactly where both claim a
--- string under different productions, with these, else by 14 for too many states. Assumes nothing.
+-- Two trees united, in either mode: a tree that says what the two say together; refused by 8 exactly where both claim
+-- a string under different productions, with these, else by 14 for too many states. Assumes nothing.
 use mathlib.Core.Path.{_≡_, refl, sym, _∙_, ap, subst}
 use mathlib.Core.Bool.{Bool, true, false, cond}
 use mathlib.Core.Option.{Option, none, some}
 use mathlib.Core.List.{List, [], _∷_, _++_, append-nil}
 use Prim.Native.Nat.{ℕ, suc, _≤_, _<_}
-use native.Mathlib.Omega.{arith}
 use lib.ListN.{length}
 use lib.Seq.{append-snoc}
 use lib.Dec.{ltb}
@@ -14,18 +13,18 @@ use Rattle.laws.proofs.Tests.{never}
 use Rattle.paper.specs.declared.Mode.{Mode}
 use Rattle.paper.specs.Rows.{Row, Table, find}
 use Rattle.paper.specs.Answers.{Ruling, accept, refuse, then, Made}
-use Rattle.paper.specs.Build.{insert, give, within}
+use Rattle.paper.specs.Build.{give, within}
 use Rattle.paper.specs.Unite.{taken, root, united-k, matched, United, take-row, take-rows, united}
-use Rattle.trees.specs.Reach.{Seat, Finder, sit, seat-of, onward, Word, said}
+use Rattle.trees.specs.Reach.{Seat, Finder, seat-of, onward, Word, said}
 use Rattle.trees.specs.Views.{merge, join, seen}
 use Rattle.trees.specs.Unions.{as-seen, Agreed}
 use Rattle.trees.proofs.Find.{find-nil, find-left}
 use Rattle.trees.proofs.Paths.{path, word, onward-some, onward-none, path-left}
 use Rattle.trees.proofs.Grown.{grown-here}
-use Rattle.trees.proofs.Tree.{Tree, next-row}
+use Rattle.trees.proofs.Tree.{Tree}
 use Rattle.trees.proofs.Words.{join-none, join-off}
 use Rattle.trees.proofs.Order.{Next, Ordered, end, next, ordered}
-use Rattle.trees.proofs.Took.{lead, Took, took-new, took-old}
+use Rattle.trees.proofs.Took.{lead, took-new, took-old}
 use Rattle.trees.proofs.Matching.{Matching, start-of, grown-D, matching-step}
 use Rattle.trees.proofs.Kept.{Keeps, kept, off, keeps-k}
 use Rattle.trees.proofs.Taken.{Met, met, unmet, taken-met, root-met}
@@ -46,12 +45,12 @@ module _ (mode : Mode) (a : List ℕ → Word) (pB : Option ℕ) (D : List Row) 
   unfolding take-row word path said
   added e =
       let v : join mode (a (r .terminal ∷ w)) (said (path pB (find D) (r .terminal ∷ w))) ≡ none =
-            sym (i .words (r .terminal ∷ w))
-            ∙ ap said (onward-none (find (u .table .rows)) (lead (u .table) w) (r .terminal) x e₁ e) in
+      sym (i .words (r .terminal ∷ w))
+      ∙ ap said (onward-none (find (u .table .rows)) (lead (u .table) w) (r .terminal) x e₁ e) in
       let blank = join-off mode (a (r .terminal ∷ w)) (said (path pB (find D) (r .terminal ∷ w))) v in
       rw (← e₂) (fine (matching-step mode a pB D u i r nx w y at is _ _
-          (took-new mode (u .table) w x (r .terminal) (r .production) (i .tree) e₁ e)
-          (λ p q k l. absurd (never (sym blank ∙ k)))))
+      (took-new mode (u .table) w x (r .terminal) (r .production) (i .tree) e₁ e)
+      (λ p q k l. absurd (never (sym blank ∙ k)))))
 
   matched-row : (x′ : Row) → find (u .table .rows) (x .state) (r .terminal) ≡ some x′ →
       Outcome mode a pB (D ++ (r ∷ [])) (take-row mode u r (some x′))
@@ -60,17 +59,20 @@ module _ (mode : Mode) (a : List ℕ → Word) (pB : Option ℕ) (D : List Row) 
     where
       new : List ℕ
       new = r .terminal ∷ w
+
       -- the first table's own word
       own : a new ≡ some (x′ .production)
       own =
           let n : path pB (find D) new ≡ none =
-                onward-none (find D) (path pB (find D) w) (r .terminal) y at (rw is (nx .new)) in
+          onward-none (find D) (path pB (find D) w) (r .terminal) y at (rw is (nx .new)) in
           sym (join-none mode (a new)) ∙ ap (λ (o : Option Seat). join mode (a new) (said o)) (sym n)
           ∙ sym (i .words new)
           ∙ ap said (onward-some (find (u .table .rows)) (lead (u .table) w) (r .terminal) x e₁ x′ e)
+
       there : said (path pB (find (D ++ (r ∷ []))) new) ≡ some (r .production)
       there = ap said (grown-here pB (find D) (find (D ++ (r ∷ []))) w y (r .terminal) r
           (grown-D mode a pB D u i r nx w y at is))
+
       go : (g : Ruling (Option ℕ)) → Met mode (x′ .production) (r .production) g →
           Outcome mode a pB (D ++ (r ∷ [])) (then g (λ q. accept (record {
             table = give (x′ .to) q (u .table);
@@ -114,8 +116,8 @@ module _ (mode : Mode) (a : List ℕ → Word) (pB : Option ℕ) (B : List Row) 
       let (x, e₁, e₂) = i .match w y at in
       let e₃ : x .state ≡ matched (u .matches) (r .from) = e₂ ∙ ap (matched (u .matches)) is in
       let step = row-step mode a pB D u i r nx w y at is x e₁ e₃
-            (find (u .table .rows) (matched (u .matches) (r .from)) (r .terminal))
-            (ap (λ (s : ℕ). find (u .table .rows) s (r .terminal)) e₃) in
+      (find (u .table .rows) (matched (u .matches) (r .from)) (r .terminal))
+      (ap (λ (s : ℕ). find (u .table .rows) s (r .terminal)) e₃) in
       go-on (D ++ (r ∷ [])) rs e′ _ step (λ v j. took-rows rs (D ++ (r ∷ [])) v or e′ j)
 
 -- ---- no row taken yet
@@ -153,13 +155,16 @@ module _ (mode : Mode) (A : Table) (tr : Tree (A .rows)) (pB : Option ℕ) (k : 
     where
       p : Option ℕ
       p = merge mode (A .prod0) pB
+
       words : (v : List ℕ) → said (path p (find (A .rows)) v) ≡ join mode (word A v) (said (path pB (find []) v))
       words [] = refl
       words (t ∷ v) = rw (path-nil pB v t, join-none) (ap said (path-root p (A .prod0) (find (A .rows)) v t))
+
       match : (v : List ℕ) (y : Seat) → path pB (find []) v ≡ some y →
           (x : Seat) × (path p (find (A .rows)) v ≡ some x) × (x .state ≡ matched [] (y .state))
       match [] y e = (record { state = 0; production = p }, refl, refl)
       match (t ∷ v) y e = absurd (never (sym (path-nil pB v t) ∙ e))
+
       agree : (v : List ℕ) (p q : ℕ) → word A v ≡ some (some p) → said (path pB (find []) v) ≡ some (some q) → p ≡ q
       agree [] p q e₁ e₂ = h p q (cc) (cc)
       agree (t ∷ v) p q e₁ e₂ = absurd (never (sym (ap said (path-nil pB v t)) ∙ e₂))
@@ -185,8 +190,10 @@ united-good mode A B tr trB = go (root mode (A .prod0) (B .prod0)) (root-met mod
   where
     pB : Option ℕ
     pB = seen mode (A .prod0) (B .prod0)
+
     k : ℕ
     k = united-k mode (A .k) (B .k)
+
     size : (T : Table) → Joined mode A B T → Ends mode A B (within T)
     size T j = sized (ltb 1024 (suc (length (T .rows)))) refl
       where
@@ -194,16 +201,18 @@ united-good mode A B tr trB = go (root mode (A .prod0) (B .prod0)) (root-met mod
             (cond b (refuse 14 []) (accept (record { table = T; states = suc (length (T .rows)) })))
         sized true e = full j (ltb-true 1024 (suc (length (T .rows))) e)
         sized false e = joined j (ltb-false 1024 (suc (length (T .rows))) e)
+
     rest : {g : Ruling United} → Outcome mode (word A) pB (B .rows) g → Keeps (λ t. t .k ≡ k) g →
         Ends mode A B (then g (λ u. within (u .table)))
     rest (fine {u} i) (kept l) =
         size (u .table) (record { tree = i .tree; words = i .words; agree = i .agree; longer = l })
     rest (clashed v e₁ e₂ n) off = at-odds v e₁ e₂ n
+
     go : (g : Ruling (Option ℕ)) → Met mode (A .prod0) pB g → Ends mode A B (then g (λ p.
         then (take-rows mode (record { table = record { prod0 = p; k = k; rows = A .rows }; matches = [] }) (B .rows))
-          (λ u. within (u .table))))
+        (λ u. within (u .table))))
     go g (met h) =
         let u = begun mode A tr pB k h in
         rest (took-rows mode (word A) pB (B .rows) (B .rows) [] u (ordered (B .rows) trB) refl
-          (matching-start mode A tr pB k h)) (keeps-k mode k (B .rows) u refl)
+        (matching-start mode A tr pB k h)) (keeps-k mode k (B .rows) u refl)
     go g (unmet e₁ e₂ n) = at-odds [] (ap some e₁) (ap some e₂) n

@@ -1,13 +1,13 @@
 -- Build's steps, in numbers: `enter` adds at most one row and `walk-in` at most one for each token; rows only grow in
 -- number, so what is over 1,024 states on the way is so at the end. Assumes nothing.
-use mathlib.Core.Path.{_≡_, refl, sym, _∙_, ap}
+use mathlib.Core.Path.{_≡_, refl, sym}
 use mathlib.Core.Option.{Option, none, some}
 use mathlib.Core.List.{List, [], _∷_, reverse}
 use Prim.Native.Nat.{ℕ, suc, _+_, _≤_}
 use native.Mathlib.Omega.{arith}
 use lib.ListN.{length}
 use Rattle.paper.specs.Rows.{Row, Table, find}
-use Rattle.paper.specs.Build.{insert, give, Standing, enter, walk-in, add-string, add-strings}
+use Rattle.paper.specs.Build.{Standing, enter, walk-in, add-string, add-strings}
 use Rattle.trees.proofs.Find.{length-insert, find-insert-here}
 use Rattle.trees.proofs.Paint.{length-give}
 use Rattle.trees.proofs.Paths.{path, low}
@@ -68,7 +68,8 @@ pub walk-state : (σ : List ℕ) (rs : List Row) → Tree rs →
 unfolding path
 walk-state σ rs tr =
     let w = walk-in (record { rows = rs; state = 0 }) σ in
-    let a = walked none σ (record { rows = rs; state = 0 }) [] (record { state = 0; production = none }) tr refl refl in
+    let s : Standing = record { rows = rs; state = 0 } in
+    let a = walked none σ s [] (record { state = 0; production = none }) tr refl refl in
     omega (arith, a .is, low none (find (w .rows)) (length (w .rows)) (a .tree .cap) (reverse σ) (a .seat) (a .at))
 
 -- ---- strings
@@ -80,5 +81,9 @@ string-grows q t σ = sym (length-give _ (some q) _)
 pub strings-grow : (q : ℕ) (σs : List (List ℕ)) (t : Table) → length (t .rows) ≤ length (add-strings q t σs .rows)
 unfolding add-strings
 strings-grow q [] t = omega arith
-strings-grow q (σ ∷ σs) t = omega (arith, walk-grows σ (record { rows = t .rows; state = 0 }), string-grows q t σ,
-    strings-grow q σs (add-string q t σ))
+strings-grow q (σ ∷ σs) t = omega (
+  arith,
+  walk-grows σ (record { rows = t .rows; state = 0 }),
+  string-grows q t σ,
+  strings-grow q σs (add-string q t σ),
+)

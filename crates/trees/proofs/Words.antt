@@ -4,7 +4,7 @@ use mathlib.Core.Path.{_≡_, refl, sym, _∙_, ap}
 use mathlib.Core.Logic.{_⊎_, inl, inr}
 use mathlib.Core.Bool.{cond}
 use mathlib.Core.Option.{Option, none, some}
-use mathlib.Core.List.{List, [], _∷_, List-discrete}
+use mathlib.Core.List.{List, _∷_, List-discrete}
 use Prim.Native.Nat.{ℕ}
 use native.Mathlib.Decide.{ℕ-discrete}
 use lib.Dec.{eqb}
@@ -107,8 +107,9 @@ only-off u v q h = go (List-discrete ℕ-discrete v u)
     go (no n) = refl
 
 -- a new row adds its own word
-pub grown-word : (mode : Mode) (p : Option ℕ) (f f′ : Finder) (w : List ℕ) (x : Seat) (t : ℕ) (r : Row) → Grown p f f′ w x t r →
-    (v : List ℕ) → said (path p f′ v) ≡ join mode (said (path p f v)) (only (t ∷ w) (r .production) v)
+pub grown-word : (mode : Mode) (p : Option ℕ) (f f′ : Finder) (w : List ℕ) (x : Seat) (t : ℕ) (r : Row) →
+    Grown p f f′ w x t r → (v : List ℕ) →
+    said (path p f′ v) ≡ join mode (said (path p f v)) (only (t ∷ w) (r .production) v)
 unfolding said join
 grown-word mode p f f′ w x t r g v = go (List-discrete ℕ-discrete v (t ∷ w))
   where
@@ -120,7 +121,8 @@ grown-word mode p f f′ w x t r g v = go (List-discrete ℕ-discrete v (t ∷ w
     go (no h) = rw (grown-other p f f′ w x t r g v h, only-off (t ∷ w) v (r .production) h, join-none)
 
 -- a state that takes the production q, as the mode has it
-pub given-word : (mode : Mode) (p : Option ℕ) (f f′ : Finder) (u : List ℕ) (x : Seat) (s : ℕ) (q : Option ℕ) → Branching f →
+pub given-word : (mode : Mode) (p : Option ℕ) (f f′ : Finder) (u : List ℕ) (x : Seat) (s : ℕ) (q : Option ℕ) →
+    Branching f →
     ((a b : ℕ) → f′ a b ≡ painted s (merge mode (x .production) q) (f a b)) → path p f u ≡ some x → x .state ≡ s →
     (v : List ℕ) →
     said (path (cond (eqb s 0) (merge mode (x .production) q) p) f′ v) ≡ join mode (said (path p f v)) (only u q v)
@@ -130,9 +132,11 @@ given-word mode p f f′ u x s q tree h e i v =
   where
     q′ : Option ℕ
     q′ = merge mode (x .production) q
+
     off : (o : Option Seat) → path p f v ≡ o → (v ≡ u → ⊥) → said (reseat s q′ o) ≡ join mode (said o) none
     off none k n = refl
     off (some y) k n = rw (ne-eqb (y .state) s (λ l. n (unique p f tree v u y x k e (l ∙ sym i))))
+
     go : Dec (v ≡ u) → said (reseat s q′ (path p f v)) ≡ join mode (said (path p f v)) (only u q v)
     go (yes k) = rw (ap (path p f) k ∙ e, only-here u v q k) (ap some (rw (eq-eqb (x .state) s i)))
     go (no n) = rw (only-off u v q n) (off (path p f v) refl n)

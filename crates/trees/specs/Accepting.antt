@@ -1,11 +1,10 @@
 -- The accepting states of a tree: state 0 if prod0 is no none, and one for each row with a production.
 use Prim.Native.Nat.{ℕ, _+_}
 use mathlib.Core.Path.{_≡_}
-use mathlib.Core.Logic.{_⊎_}
 use mathlib.Core.Option.{Option, none, some}
 use mathlib.Core.List.{List, [], _∷_, List·Memᴰ}
 use Rattle.paper.specs.Rows.{Row, Table}
-use Rattle.trees.specs.Reach.{Word, view}
+use Rattle.trees.specs.Reach.{Word}
 
 unfoldable pub accepts : Option ℕ → ℕ
 accepts none = 0

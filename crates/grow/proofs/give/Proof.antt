@@ -1,3 +1,9 @@
+use mathlib.Core.Path.{refl}
+use Prim.Native.Nat.{_+_, _*_}
+use mathlib.Core.Path.{ap, _∙_}
+use lib.ListN.{set, length-set}
+use Rattle.grow.proofs.Shifted.{passed-production}
+use Rattle.grow.proofs.Painted.{given}
 use borrow.Author.Needs.{needs}
 use Rattle.grow.proofs.give.Statement.{statement}
 use Rattle.grow.proofs.give.Tie as tie
@@ -31,7 +37,12 @@ same-length c = search needs
 
 -- src/lib.rt:72:1
 returns : tie.Need-returns
-returns c = ?
+returns c =
+    let s = c .before in
+    let a = s .args in
+    given (a .buf .now) (a .n) (a .i) (a .code) (s .pre) _
+      (ap (set (a .buf .now) (a .i * 4 + 3)) (passed-production _ (a .code) (c .production-of .ensures) (s .pre .production)))
+      (simp length-set)
 
 pub give-spec : {M : Type 1} → statement M
 give-spec =

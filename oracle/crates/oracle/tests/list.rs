@@ -5,12 +5,12 @@ use oracle::{Lent, Table, list};
 use std::collections::BTreeSet;
 use std::path::PathBuf;
 
-fn folder() -> PathBuf {
-    PathBuf::from(env!("CARGO_MANIFEST_DIR")).join("../../list")
+fn repository() -> PathBuf {
+    PathBuf::from(env!("CARGO_MANIFEST_DIR")).join("../../..")
 }
 
 fn committed(name: &str) -> Vec<u8> {
-    std::fs::read(folder().join(format!("{name}.bin"))).unwrap()
+    std::fs::read(repository().join("crates").join(list::path(name))).unwrap()
 }
 
 #[test]
@@ -22,7 +22,7 @@ fn made_again_it_is_the_same() {
         total += file.bytes.len();
     }
     assert!(total <= 1_200_000);
-    let readme = std::fs::read_to_string(folder().join("README.md")).unwrap();
+    let readme = std::fs::read_to_string(repository().join("oracle/list/README.md")).unwrap();
     assert!(readme.contains(&list.counts()), "counts in list/README.md");
 }
 

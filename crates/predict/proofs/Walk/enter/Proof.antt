@@ -11,54 +11,54 @@ use Rattle.predict.proofs.Walk.enter.Lts as lts
 use Rattle.rows.proofs.numbers.code_at.Reads as code-at-reads
 use Rattle.rows.proofs.numbers.to_at.Reads as to-at-reads
 
--- src/lib.rt:60:18
+-- src/lib.rt:68:18
 to-at-requires : tie.Need-to-at-requires
 to-at-requires c κs = search needs
 
--- src/lib.rt:60:18
+-- src/lib.rt:68:18
 cast-to : tie.Need-cast-to
 cast-to c =
     let f = fit-at (c .before .pre .0) (c .before .args .i) (c .before .pre .1) in
     omega (arith, c .to-at .ensures .is, f .to)
 
--- src/lib.rt:61:13
+-- src/lib.rt:69:13
 code-at-requires : tie.Need-code-at-requires
 code-at-requires c κs = search needs
 
--- src/lib.rt:66:26
-add-t11 : tie.Need-add-t11
-add-t11 c = search needs
+-- src/lib.rt:73:26
+add-t12 : tie.Need-add-t12
+add-t12 c = search needs
 
--- src/lib.rt:64:13
+-- src/lib.rt:71:13
 returns : tie.Need-returns
 returns c =
-    let d = c .before .before in
+    let d = c .before in
     let s = d .before .before in
     enters-plain (seen (s .args .self)) (row-at (s .args .rows .now) (s .args .i)) _ _
-      (d .before .to-at .ensures .is) (d .code-at .ensures .is) (c .before .if1 .taken)
+      (d .before .to-at .ensures .is) (d .code-at .ensures .is) (c .if1 .taken)
 
--- src/lib.rt:70:18
+-- src/lib.rt:77:18
 sub-q : tie.Need-sub-q
 sub-q c = search needs
 
--- src/lib.rt:70:17
+-- src/lib.rt:77:17
 cast-q : tie.Need-cast-q
 cast-q c =
     let s = c .before .before .before in
     let f = fit-at (s .pre .0) (s .args .i) (s .pre .1) in
     omega (arith, c .before .code-at .ensures .is, f .production)
 
--- src/lib.rt:73:22
-add-t8 : tie.Need-add-t8
-add-t8 c = search needs
+-- src/lib.rt:80:22
+add-t9 : tie.Need-add-t9
+add-t9 c = search needs
 
--- src/lib.rt:56:5
+-- src/lib.rt:62:5
 returns-2 : tie.Need-returns-2
 returns-2 c =
-    let d = c .before .before in
+    let d = c .before in
     let s = d .before .before in
     enters-accepting (seen (s .args .self)) (row-at (s .args .rows .now) (s .args .i)) _ _
-      (d .before .to-at .ensures .is) (d .code-at .ensures .is) (c .before .if1 .left)
+      (d .before .to-at .ensures .is) (d .code-at .ensures .is) (c .if1 .left)
 
 pub enter-spec : {M : Type 1} → statement M
 enter-spec =
@@ -67,9 +67,9 @@ enter-spec =
     to-at-requires
     cast-to
     code-at-requires
-    add-t11
+    add-t12
     returns
     sub-q
     cast-q
-    add-t8
+    add-t9
     returns-2)

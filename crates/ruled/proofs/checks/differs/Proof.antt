@@ -12,29 +12,23 @@ use Rattle.rows.proofs.numbers.code_at.Reads as code-at-reads
 use Rattle.rows.proofs.numbers.to_at.Reads as to-at-reads
 use Rattle.ruled.proofs.into.wide.Reads as wide-reads
 
--- src/checks.rt:46:33
 to-at-requires : tie.Need-to-at-requires
 to-at-requires c κs = search needs
 
--- src/checks.rt:46:28
 mul-wide : tie.Need-mul-wide
 mul-wide c = search needs
 
--- src/checks.rt:46:28
 element-copy-out-wide : tie.Need-element-copy-out-wide
 element-copy-out-wide c =
     let s = c .before in
     omega (arith, c .to-at .ensures, bound (s .pre .0) (s .args .i) (s .pre .2) .to)
 
--- src/checks.rt:46:9
 wide-requires : tie.Need-wide-requires
 wide-requires c κs = search needs
 
--- src/checks.rt:47:5
 code-at-requires : tie.Need-code-at-requires
 code-at-requires c κs = search needs
 
--- src/checks.rt:47:57
 sub-code-at : tie.Need-sub-code-at
 sub-code-at c =
     let w = c .before in
@@ -44,7 +38,6 @@ sub-code-at c =
     (s .pre .0) (s .pre .1) (s .pre .2) (t .to-at .ensures .is) (w .wide .ensures .0) in
     f .0
 
--- src/checks.rt:47:34
 code-at-requires-2 : tie.Need-code-at-requires-2
 code-at-requires-2 c κs =
     let w = c .before in
@@ -54,7 +47,6 @@ code-at-requires-2 c κs =
     (s .pre .0) (s .pre .1) (s .pre .2) (t .to-at .ensures .is) (w .wide .ensures .0) in
     f .1 .there
 
--- src/checks.rt:42:1
 returns : tie.Need-returns
 returns c =
     let w = c .before .before in

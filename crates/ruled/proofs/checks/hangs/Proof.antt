@@ -11,11 +11,9 @@ use Rattle.ruled.proofs.checks.hangs.Reads as reads
 use Rattle.ruled.proofs.checks.hangs.Lts as lts
 use Rattle.rows.proofs.numbers.from_at.Reads as from-at-reads
 
--- src/checks.rt:18:9
 from-at-requires : tie.Need-from-at-requires
 from-at-requires c κs = search needs
 
--- src/checks.rt:20:9
 returns : tie.Need-returns
 returns c =
     let f = c .before in
@@ -23,18 +21,15 @@ returns c =
     hang-zero (row-at (a .rows .now) (a .i)) (f .from-at .result) (f .from-at .ensures .is) (rows-in (a .rows .now))
     (c .if1 .taken)
 
--- src/checks.rt:22:5
 mul-result : tie.Need-mul-result
 mul-result c = search needs
 
--- src/checks.rt:22:5
 element-copy-out-result : tie.Need-element-copy-out-result
 element-copy-out-result c =
     let f = c .before in
     let s = f .before in
     omega (arith, f .from-at .ensures, bound (s .pre .0) (s .args .i) (s .pre .2) .from)
 
--- src/checks.rt:14:1
 returns-2 : tie.Need-returns-2
 returns-2 c =
     let e = c .before in

@@ -20,17 +20,14 @@ Inv-loop rows into n i₀ i = any (hangs (rows-in rows)) (rows-in rows) ≡ any 
 abbrev μ-loop : tie.MeasureT-loop
 μ-loop rows into n i₀ i = n - i
 
--- src/checks.rt:32:5
 loop-holds : tie.Need-loop-holds Inv-loop μ-loop
 loop-holds c = refl
 
--- src/checks.rt:33:12
 hangs-requires : tie.Need-hangs-requires Inv-loop μ-loop
 hangs-requires c κs =
     let s = c .before .before in
     (s .pre .0, s .pre .1, omega arith)
 
--- src/checks.rt:34:13
 returns : tie.Need-returns Inv-loop μ-loop
 unfolding loose
 returns c =
@@ -39,15 +36,12 @@ returns c =
     let e = sym (c .before .hangs .ensures) ∙ c .if1 .taken in
     sym (l .loop .inv ∙ any-here (hangs (rows-in ns)) ns (l .loop .i) (omega arith) e)
 
--- src/checks.rt:36:9
 add-i : tie.Need-add-i Inv-loop μ-loop
 add-i c = search needs
 
--- src/checks.rt:32:5
 loop-less : tie.Need-loop-less Inv-loop μ-loop
 loop-less c = search needs
 
--- src/checks.rt:32:5
 loop-again : tie.Need-loop-again Inv-loop μ-loop
 loop-again c =
     let l = c .before .before .before in
@@ -55,7 +49,6 @@ loop-again c =
     let e = sym (c .before .hangs .ensures) ∙ c .if1 .left in
     l .loop .inv ∙ any-next (hangs (rows-in ns)) ns (l .loop .i) (omega arith) e
 
--- src/checks.rt:26:1
 returns-2 : tie.Need-returns-2 Inv-loop μ-loop
 unfolding loose
 returns-2 c =

@@ -20,33 +20,27 @@ Inv-loop rows counts₀ i₀ counts i = (i ≤ length rows / 4) × Holds (rows-i
 abbrev μ-loop : tie.MeasureT-loop
 μ-loop rows counts₀ i₀ counts i = i
 
--- src/counts.rt:19:5
 loop-holds : tie.Need-loop-holds Inv-loop μ-loop
 loop-holds c = (omega arith, holds-as (count-none (c .args .rows .now)) (c .pre .1))
 
--- src/counts.rt:20:9
 sub-i : tie.Need-sub-i Inv-loop μ-loop
 sub-i c = omega arith
 
--- src/counts.rt:21:13
 to-at-requires : tie.Need-to-at-requires Inv-loop μ-loop
 to-at-requires c κs = omega arith
 
--- src/counts.rt:22:9
 mul-counts : tie.Need-mul-counts Inv-loop μ-loop
 mul-counts c =
     let l = c .before .before in
     let f = bound (l .before .pre .0) (l .loop .i - 1) (omega arith) in
     omega (arith, f .to, c .to-at .ensures)
 
--- src/counts.rt:22:9
 element-copy-out-counts : tie.Need-element-copy-out-counts Inv-loop μ-loop
 element-copy-out-counts c =
     let l = c .before .before in
     let f = bound (l .before .pre .0) (l .loop .i - 1) (omega arith) in
     omega (arith, f .to, c .to-at .ensures)
 
--- src/counts.rt:22:9
 add-counts : tie.Need-add-counts Inv-loop μ-loop
 add-counts c =
     let t = c .before in
@@ -55,7 +49,6 @@ add-counts c =
     let h = l .loop .inv .1 .held (t .to-at .result) (omega (arith, f .to, t .to-at .ensures)) in
     omega (arith, h, count-le (l .before .args .rows .now) (l .loop .i) (t .to-at .result), l .before .pre .0 .few)
 
--- src/counts.rt:22:9
 element-write-counts : tie.Need-element-write-counts Inv-loop μ-loop
 element-write-counts c =
     let t = c .before in
@@ -63,11 +56,9 @@ element-write-counts c =
     let f = bound (l .before .pre .0) (l .loop .i - 1) (omega arith) in
     omega (arith, f .to, t .to-at .ensures)
 
--- src/counts.rt:19:5
 loop-less : tie.Need-loop-less Inv-loop μ-loop
 loop-less c = omega arith
 
--- src/counts.rt:19:5
 loop-again : tie.Need-loop-again Inv-loop μ-loop
 loop-again c =
     let t = c .before in
@@ -79,7 +70,6 @@ loop-again c =
           (omega arith) (l .loop .inv .1) (t .to-at .ensures .is) (omega (arith, f .to, t .to-at .ensures)),
     )
 
--- src/counts.rt:14:1
 returns : tie.Need-returns Inv-loop μ-loop
 returns c =
     let l = c .before in

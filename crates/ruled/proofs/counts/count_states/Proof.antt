@@ -24,25 +24,20 @@ Inv-loop rows seen₀ n₀ i₀ seen n i =
 abbrev μ-loop : tie.MeasureT-loop
 μ-loop rows seen₀ n₀ i₀ seen n i = i
 
--- src/counts.rt:71:5
 element-write-seen : tie.Need-element-write-seen Inv-loop μ-loop
 element-write-seen c = omega arith
 
--- src/counts.rt:74:5
 loop-holds : tie.Need-loop-holds Inv-loop μ-loop
 loop-holds c =
     let ns = c .args .rows .now in
     (omega arith, omega arith, see-zero ns (c .args .seen .now) (c .pre .1), one-state ns)
 
--- src/counts.rt:75:9
 sub-i : tie.Need-sub-i Inv-loop μ-loop
 sub-i c = omega arith
 
--- src/counts.rt:76:13
 to-at-requires : tie.Need-to-at-requires Inv-loop μ-loop
 to-at-requires c κs = omega arith
 
--- src/counts.rt:77:14
 enter-requires : tie.Need-enter-requires Inv-loop μ-loop
 enter-requires c κs =
     let t = c .before in
@@ -52,15 +47,12 @@ enter-requires c κs =
     let xs = states (rest (l .before .args .rows .now) (l .loop .i)) in
     (b, omega (arith, l .loop .inv .2 .held (t .to-at .result) b, seen-le xs (t .to-at .result)))
 
--- src/counts.rt:77:9
 add-n : tie.Need-add-n Inv-loop μ-loop
 add-n c = omega (arith, c .enter .ensures .fresh)
 
--- src/counts.rt:74:5
 loop-less : tie.Need-loop-less Inv-loop μ-loop
 loop-less c = omega arith
 
--- src/counts.rt:74:5
 loop-again : tie.Need-loop-again Inv-loop μ-loop
 loop-again c =
     let t = c .before .before in
@@ -83,7 +75,6 @@ loop-again c =
       see-count ns i k (l .loop .seen) new (l .loop .i) to (c .enter .result) e h q b d (l .loop .n) (l .loop .inv .3),
     )
 
--- src/counts.rt:67:1
 returns : tie.Need-returns Inv-loop μ-loop
 returns c =
     let l = c .before in

@@ -18,19 +18,15 @@ Inv-loop rows counts i₀ i =
 abbrev μ-loop : tie.MeasureT-loop
 μ-loop rows counts i₀ i = i
 
--- src/counts.rt:32:5
 loop-holds : tie.Need-loop-holds Inv-loop μ-loop
 loop-holds c = (omega arith, refl)
 
--- src/counts.rt:33:12
 mul-if1 : tie.Need-mul-if1 Inv-loop μ-loop
 mul-if1 c = omega arith
 
--- src/counts.rt:33:12
 element-copy-out-if1 : tie.Need-element-copy-out-if1 Inv-loop μ-loop
 element-copy-out-if1 c = omega arith
 
--- src/counts.rt:34:13
 returns : tie.Need-returns Inv-loop μ-loop
 returns c =
     let l = c .before .before .before in
@@ -38,15 +34,12 @@ returns c =
     sym (l .loop .inv .1 ∙ once-fails (s .args .rows .now) (s .args .counts .now) (s .pre .1) (l .loop .i)
     (omega arith) (omega arith) (c .if1 .taken))
 
--- src/counts.rt:36:9
 sub-i : tie.Need-sub-i Inv-loop μ-loop
 sub-i c = omega arith
 
--- src/counts.rt:32:5
 loop-less : tie.Need-loop-less Inv-loop μ-loop
 loop-less c = omega arith
 
--- src/counts.rt:32:5
 loop-again : tie.Need-loop-again Inv-loop μ-loop
 loop-again c =
     let l = c .before .before .before in
@@ -56,7 +49,6 @@ loop-again c =
           (omega arith) (omega arith) (c .if1 .left),
     )
 
--- src/counts.rt:27:1
 returns-2 : tie.Need-returns-2 Inv-loop μ-loop
 returns-2 c =
     let l = c .before in

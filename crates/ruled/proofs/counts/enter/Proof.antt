@@ -6,21 +6,17 @@ use Rattle.ruled.proofs.counts.enter.Tie as tie
 use Rattle.ruled.proofs.counts.enter.Reads as reads
 use Rattle.ruled.proofs.counts.enter.Lts as lts
 
--- src/counts.rt:59:8
 element-copy-out-if1 : tie.Need-element-copy-out-if1
 element-copy-out-if1 c = search needs
 
--- src/counts.rt:60:9
 returns : tie.Need-returns
 returns c =
     let a = c .before .before .args in
     entered-before (a .seen .now) (a .s) (c .if1 .taken)
 
--- src/counts.rt:62:5
 element-write-seen : tie.Need-element-write-seen
 element-write-seen c = search needs
 
--- src/counts.rt:55:1
 returns-2 : tie.Need-returns-2
 returns-2 c = search needs
 

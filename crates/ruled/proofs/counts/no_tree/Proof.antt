@@ -9,19 +9,15 @@ use Rattle.ruled.proofs.counts.no_tree.Lts as lts
 use Rattle.ruled.proofs.counts.count.Reads as count-reads
 use Rattle.ruled.proofs.counts.each_once.Reads as each-once-reads
 
--- src/counts.rt:47:9
 returns : tie.Need-returns
 returns c = many (c .before .args .rows .now) (c .before .pre) (c .if1 .taken)
 
--- src/counts.rt:50:5
 count-requires : tie.Need-count-requires
 count-requires c κs = (c .before .before .pre, clear)
 
--- src/counts.rt:51:6
 each-once-requires : tie.Need-each-once-requires
 each-once-requires c κs = search needs
 
--- src/counts.rt:42:1
 returns-2 : tie.Need-returns-2
 returns-2 c =
     let s = c .before .before .before .before .before in

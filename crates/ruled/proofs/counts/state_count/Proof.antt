@@ -7,11 +7,9 @@ use Rattle.ruled.proofs.counts.state_count.Reads as reads
 use Rattle.ruled.proofs.counts.state_count.Lts as lts
 use Rattle.ruled.proofs.counts.count_states.Reads as count-states-reads
 
--- src/counts.rt:88:5
 count-states-requires : tie.Need-count-states-requires
 count-states-requires c κs = (c .before .pre, clear)
 
--- src/counts.rt:83:1
 returns : tie.Need-returns
 returns c = search needs
 

@@ -19,25 +19,20 @@ Inv-loop rows into₀ i₀ into i = (i ≤ length rows / 4) × Holds (into-from 
 abbrev μ-loop : tie.MeasureT-loop
 μ-loop rows into₀ i₀ into i = i
 
--- src/into.rt:15:5
 loop-holds : tie.Need-loop-holds Inv-loop μ-loop
 loop-holds c =
     let ns = c .args .rows .now in
     (omega arith, holds-as (λ s. into-end ns (length ns / 4) s (omega arith)) (c .pre .1))
 
--- src/into.rt:16:39
 sub-to-at : tie.Need-sub-to-at Inv-loop μ-loop
 sub-to-at c = omega arith
 
--- src/into.rt:16:13
 to-at-requires : tie.Need-to-at-requires Inv-loop μ-loop
 to-at-requires c κs = omega arith
 
--- src/into.rt:17:20
 cast-into : tie.Need-cast-into Inv-loop μ-loop
 cast-into c = omega (arith, c .before .before .before .pre .0 .few)
 
--- src/into.rt:17:9
 mul-into : tie.Need-mul-into Inv-loop μ-loop
 mul-into c =
     let l = c .before .before in
@@ -45,7 +40,6 @@ mul-into c =
     let f = bound (l .before .pre .0) i (omega arith) in
     omega (arith, f .to, c .to-at .ensures)
 
--- src/into.rt:17:9
 element-write-into : tie.Need-element-write-into Inv-loop μ-loop
 element-write-into c =
     let l = c .before .before in
@@ -53,15 +47,12 @@ element-write-into c =
     let f = bound (l .before .pre .0) i (omega arith) in
     omega (arith, f .to, c .to-at .ensures)
 
--- src/into.rt:18:9
 sub-i : tie.Need-sub-i Inv-loop μ-loop
 sub-i c = omega arith
 
--- src/into.rt:15:5
 loop-less : tie.Need-loop-less Inv-loop μ-loop
 loop-less c = omega arith
 
--- src/into.rt:15:5
 loop-again : tie.Need-loop-again Inv-loop μ-loop
 loop-again c =
     let l = c .before .before in
@@ -73,7 +64,6 @@ loop-again c =
           (l .loop .inv .1) (c .to-at .ensures .is) (omega (arith, f .to, c .to-at .ensures)),
     )
 
--- src/into.rt:10:1
 returns : tie.Need-returns Inv-loop μ-loop
 returns c =
     let l = c .before in

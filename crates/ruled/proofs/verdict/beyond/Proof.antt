@@ -13,23 +13,18 @@ use Rattle.ruled.proofs.checks.loose.Reads as loose-reads
 use Rattle.ruled.proofs.checks.split.Reads as split-reads
 use Rattle.ruled.proofs.into.mark.Reads as mark-reads
 
--- src/verdict.rt:24:8
 shape-requires : tie.Need-shape-requires
 shape-requires c κs = search needs
 
--- src/verdict.rt:25:9
 returns : tie.Need-returns
 returns c = refuses Shape refl refl (sym (c .before .shape .ensures) ∙ c .if1 .taken)
 
--- src/verdict.rt:28:5
 mark-requires : tie.Need-mark-requires
 mark-requires c κs = (c .before .before .before .pre, clear)
 
--- src/verdict.rt:29:8
 loose-requires : tie.Need-loose-requires
 loose-requires c κs = search needs
 
--- src/verdict.rt:30:9
 returns-2 : tie.Need-returns-2
 returns-2 c =
     let l = c .before in
@@ -37,11 +32,9 @@ returns-2 c =
     next-check (sym (s .before .shape .ensures) ∙ s .if1 .left)
     (refuses Loose refl refl (sym (l .loose .ensures) ∙ c .if2 .taken))
 
--- src/verdict.rt:32:8
 split-requires : tie.Need-split-requires
 split-requires c κs = search needs
 
--- src/verdict.rt:33:9
 returns-3 : tie.Need-returns-3
 returns-3 c =
     let p = c .before in
@@ -52,7 +45,6 @@ returns-3 c =
     (next-check (sym (l .loose .ensures) ∙ d .if2 .left)
     (refuses Split refl refl (sym (p .split .ensures) ∙ c .if3 .taken)))
 
--- src/verdict.rt:20:1
 returns-4 : tie.Need-returns-4
 returns-4 c =
     let p = c .before in

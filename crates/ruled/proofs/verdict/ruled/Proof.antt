@@ -13,18 +13,15 @@ use Rattle.ruled.proofs.verdict.ruled.Lts as lts
 use Rattle.rows.proofs.verdict.plain.Reads as plain-reads
 use Rattle.ruled.proofs.verdict.beyond.Reads as beyond-reads
 
--- src/verdict.rt:43:9
 plain-requires : tie.Need-plain-requires
 plain-requires c κs = search needs
 
 enum-told : tie.Need-enum-told
 enum-told c = search needs
 
--- src/verdict.rt:45:9
 enum-told-2 : tie.Need-enum-told-2
 enum-told-2 c = search needs
 
--- src/verdict.rt:45:9
 returns : tie.Need-returns
 returns c =
     let v = c .before .before in
@@ -34,7 +31,6 @@ returns c =
     let t = table (a .prod0) (a .k) (a .rows .now) in
     judges-stop (beyond t) j (c .enum-told2 .given .0 .0) (c .enum-told2 .given .1)
 
--- src/verdict.rt:47:5
 beyond-requires : tie.Need-beyond-requires
 beyond-requires c κs =
     let v = c .before .before in
@@ -43,7 +39,6 @@ beyond-requires c κs =
     let j = passed-on plain (a .prod0) (a .k) (a .rows .now) (v .plain .result) (s .fits .prod0) (v .plain .ensures) in
     fitting (plain-passed (a .prod0) (a .k) (a .rows .now) (as-pass (c .enum-told .given .1) j)) (s .pre)
 
--- src/verdict.rt:39:1
 returns-2 : tie.Need-returns-2
 returns-2 c =
     let e = c .before in

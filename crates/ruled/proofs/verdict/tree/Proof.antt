@@ -15,18 +15,15 @@ use Rattle.ruled.proofs.verdict.tree.Lts as lts
 use Rattle.ruled.proofs.counts.no_tree.Reads as no-tree-reads
 use Rattle.ruled.proofs.verdict.ruled.Reads as ruled-reads
 
--- src/verdict.rt:55:9
 ruled-requires : tie.Need-ruled-requires
 ruled-requires c κs = search needs
 
 enum-told : tie.Need-enum-told
 enum-told c = search needs
 
--- src/verdict.rt:57:9
 enum-told-2 : tie.Need-enum-told-2
 enum-told-2 c = search needs
 
--- src/verdict.rt:57:9
 returns : tie.Need-returns
 returns c =
     let v = c .before .before in
@@ -36,7 +33,6 @@ returns c =
     judges-stop ((no-tree (table (a .prod0) (a .k) (a .rows .now)), 7) ∷ []) j
     (c .enum-told2 .given .0 .0) (c .enum-told2 .given .1)
 
--- src/verdict.rt:59:8
 no-tree-requires : tie.Need-no-tree-requires
 no-tree-requires c κs =
     let v = c .before .before in
@@ -46,7 +42,6 @@ no-tree-requires c κs =
     let r = ruled-passed (table (a .prod0) (a .k) (a .rows .now)) (as-pass (c .enum-told .given .1) j) in
     fitting (ruled-rows (a .prod0) (a .k) (a .rows .now) r) (s .pre)
 
--- src/verdict.rt:60:9
 returns-2 : tie.Need-returns-2
 returns-2 c =
     let n = c .before in
@@ -58,7 +53,6 @@ returns-2 c =
     judges-on ((no-tree (table (a .prod0) (a .k) (a .rows .now)), 7) ∷ []) j (e .enum-told .given .1)
     (refuses Tree refl refl (tree-rows (a .prod0) (a .k) (a .rows .now) ∙ sym (n .no-tree .ensures) ∙ c .if1 .taken))
 
--- src/verdict.rt:51:1
 returns-3 : tie.Need-returns-3
 returns-3 c =
     let n = c .before in

@@ -1,4 +1,4 @@
-//! Writes the fixed list into a folder and prints its counts.
+//! Writes the fixed list into the folder of the crates that replay it and prints its counts.
 
 use std::path::PathBuf;
 
@@ -8,10 +8,11 @@ fn main() -> std::io::Result<()> {
         std::process::exit(2);
     };
     let folder = PathBuf::from(folder);
-    std::fs::create_dir_all(&folder)?;
     let list = oracle::list::make();
     for (name, file) in list.files() {
-        std::fs::write(folder.join(format!("{name}.bin")), &file.bytes)?;
+        let path = folder.join(oracle::list::path(name));
+        std::fs::create_dir_all(path.parent().unwrap())?;
+        std::fs::write(path, &file.bytes)?;
     }
     print!("{}", list.counts());
     Ok(())

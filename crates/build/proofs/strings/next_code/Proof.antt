@@ -1,0 +1,24 @@
+use borrow.Author.Needs.{needs}
+use Rattle.build.proofs.strings.next_code.Statement.{statement}
+use Rattle.build.proofs.strings.next_code.Tie as tie
+use Rattle.build.proofs.strings.next_code.Reads as reads
+use Rattle.build.proofs.strings.next_code.Lts as lts
+
+-- src/strings.rt:135:16
+cast-result : tie.Need-cast-result
+cast-result c = search needs
+
+-- src/strings.rt:135:16
+add-result : tie.Need-add-result
+add-result c = search needs
+
+-- src/strings.rt:135:9
+returns : tie.Need-returns
+returns c = ?
+
+-- src/strings.rt:130:1
+returns-2 : tie.Need-returns-2
+returns-2 c = ?
+
+pub next-code-spec : {M : Type 1} → statement M
+next-code-spec = tie.close (tie.spec cast-result add-result returns returns-2)

@@ -1,0 +1,83 @@
+use Rattle.build.proofs.strings.walk.Statement.{statement}
+use Rattle.build.proofs.strings.walk.Tie as tie
+use Rattle.build.proofs.strings.walk.Reads as reads
+use Rattle.build.proofs.strings.walk.Lts as lts
+use Rattle.build.proofs.strings.enter.Reads as enter-reads
+
+abbrev Inv-loop : tie.InvT-loop
+Inv-loop buf₀ n string m₀ s₀ row₀ i₀ buf m s row i = ?
+
+abbrev μ-loop : tie.MeasureT-loop
+μ-loop buf₀ n string m₀ s₀ row₀ i₀ buf m s row i = ?
+
+-- src/strings.rt:78:5
+loop-holds : tie.Need-loop-holds Inv-loop μ-loop
+loop-holds c = ?
+
+-- src/strings.rt:79:46
+mul-t12 : tie.Need-mul-t12 Inv-loop μ-loop
+mul-t12 c = ?
+
+-- src/strings.rt:79:46
+shared-slice-read-t17 : tie.Need-shared-slice-read-t17 Inv-loop μ-loop
+shared-slice-read-t17 c = ?
+
+-- src/strings.rt:79:13
+enter-requires : tie.Need-enter-requires Inv-loop μ-loop
+enter-requires c κs = ?
+
+-- src/strings.rt:80:24
+enum-known-step : tie.Need-enum-known-step Inv-loop μ-loop
+enum-known-step c = ?
+
+-- src/strings.rt:81:13
+enum-told : tie.Need-enum-told Inv-loop μ-loop
+enum-told c = ?
+
+-- src/strings.rt:81:13
+same-length : tie.Need-same-length Inv-loop μ-loop
+same-length c = ?
+
+-- src/strings.rt:81:13
+returns : tie.Need-returns Inv-loop μ-loop
+returns c = ?
+
+-- src/strings.rt:86:9
+add-i : tie.Need-add-i Inv-loop μ-loop
+add-i c = ?
+
+-- src/strings.rt:78:5
+loop-less : tie.Need-loop-less Inv-loop μ-loop
+loop-less c = ?
+
+-- src/strings.rt:78:5
+loop-again : tie.Need-loop-again Inv-loop μ-loop
+loop-again c = ?
+
+-- src/strings.rt:70:1
+same-length-2 : tie.Need-same-length-2 Inv-loop μ-loop
+same-length-2 c = ?
+
+-- src/strings.rt:70:1
+returns-2 : tie.Need-returns-2 Inv-loop μ-loop
+returns-2 c = ?
+
+pub walk-spec : {M : Type 1} → statement M
+walk-spec =
+    tie.close
+    (tie.spec
+    Inv-loop
+    μ-loop
+    loop-holds
+    mul-t12
+    shared-slice-read-t17
+    enter-requires
+    enum-known-step
+    enum-told
+    same-length
+    returns
+    add-i
+    loop-less
+    loop-again
+    same-length-2
+    returns-2)

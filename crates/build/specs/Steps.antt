@@ -1,0 +1,90 @@
+-- What a walk into the rows of an array does, token by token and string by string.
+use mathlib.Core.Path.{_≡_}
+use mathlib.Core.Bool.{cond}
+use mathlib.Core.Option.{Option, none, some}
+use mathlib.Core.List.{List, map}
+use Prim.Native.Nat.{ℕ, _+_, _-_, _*_, _≤_, _<_}
+use lib.Dec.{eqb}
+use lib.ListN.{length, take}
+use lib.IntN.{ℤ}
+use Rattle.paper.specs.Rows.{Table, find}
+use Rattle.paper.specs.Build.{Standing, enter, walk-in}
+use Rattle.rows.specs.Places.{uncoded}
+use Rattle.rows.specs.Search.{Lower}
+use Rattle.grow.specs.Held.{held, row-held, Laid}
+use Rattle.trees.proofs.Paint.{paint}
+use Rattle.trees.proofs.Tree.{Tree}
+use Rattle.build.specs.declared.strings.Step.{Step}
+use Rattle.build.specs.declared.strings.Step.the-variants.{On, Full}
+use Rattle.build.specs.declared.strings.Table as declared
+use Rattle.build.specs.declared.strings.Table.the-variants as table
+
+-- The row by its number plus one leads into the state; none leads into state 0.
+pub record Leads (buf : List ℤ) (n s at : ℕ) : Type 0 where
+  pub root : at ≡ 0 → s ≡ 0
+  pub there : 0 < at → at - 1 < n
+  pub into : 0 < at → row-held buf n (at - 1) .to ≡ s
+
+-- The search found no row, and i is where it would go.
+pub record Missed (buf : List ℤ) (n i s t : ℕ) : Type 0 where
+  pub laid : Laid buf n
+  pub from : s ≤ 1023
+  pub new : find (held buf n) s t ≡ none
+  pub place : Lower (take (n * 4) buf) (s * 65536 + t) i
+
+-- The first n rows, and a state.
+abbrev pub standing : List ℤ → ℕ → ℕ → Standing
+standing buf n s = record { rows = held buf n; state = s }
+
+-- The array holds the rows of a walk's end, with its state and the row into it.
+pub record Stands (buf : List ℤ) (n s at : ℕ) (w : Standing) : Type 0 where
+  pub laid : Laid buf n
+  pub is : standing buf n s ≡ w
+  pub leads : Leads buf n s at
+
+-- A walk's end, or a walk that would add a 1,024th row.
+abbrev pub Ends : List ℤ → Standing → Step → Type 0
+Ends new w (On n s at) = Stands new n (s .0) at w
+Ends new w Full = 1023 < length (w .rows)
+
+-- One token.
+abbrev pub Enters : List ℤ → List ℤ → ℕ → ℕ → ℕ → Step → Type 0
+Enters old new n s t r = Ends new (enter (held old n) s t (find (held old n) s t)) r
+
+-- One string.
+abbrev pub Walks : List ℤ → List ℤ → ℕ → List ℕ → Step → Type 0
+Walks old new n σ r = Ends new (walk-in (standing old n 0) σ) r
+
+-- A state gets a production.
+pub record Marked (old new : List ℤ) (n s q : ℕ) : Type 0 where
+  pub laid : Laid new n
+  pub rows : held new n ≡ map (paint s (some q)) (held old n)
+
+-- One string, and its last state gets the production.
+pub record Added (old new : List ℤ) (n m s q : ℕ) (σ : List ℕ) : Type 0 where
+  pub laid : Laid new m
+  pub state : s ≡ walk-in (standing old n 0) σ .state
+  pub rows : held new m ≡ map (paint s (some q)) (walk-in (standing old n 0) σ .rows)
+
+abbrev pub Adds : List ℤ → List ℤ → ℕ → ℕ → List ℕ → Step → Type 0
+Adds old new n q σ (On m s at) = Added old new n m (s .0) q σ
+Adds old new n q σ Full = 1023 < length (walk-in (standing old n 0) σ .rows)
+
+-- The code of prod0 before any string, and after a string that ends in the state s.
+pub record Opens (lengths : List ℕ) (q r : ℕ) : Type 0 where
+  pub small : r ≤ 65536
+  pub is : uncoded r ≡ cond (eqb (length lengths) 0) (some q) none
+
+pub record Recodes (code s q r : ℕ) : Type 0 where
+  pub small : r ≤ 65536
+  pub is : uncoded r ≡ cond (eqb s 0) (some q) (uncoded code)
+
+-- A table whose rows the array holds; or it would have a 1,024th row.
+pub record Holds (new : List ℤ) (n code k : ℕ) (t : Table) : Type 0 where
+  pub laid : Laid new n
+  pub small : code ≤ 65536
+  pub is : t ≡ record { prod0 = uncoded code; k = k; rows = held new n }
+
+abbrev pub Grows : List ℤ → Table → declared.Table → Type 0
+Grows new t (table.Rows n code k) = Holds new n code k t
+Grows new t table.Full = 1023 < length (t .rows)

@@ -1,0 +1,192 @@
+use mathlib.Core.Path.{_≡_, ap, sym, _∙_}
+use native.Mathlib.Omega.{arith}
+use borrow.Author.Tests.{not-true, not-false}
+use Rattle.paper.specs.declared.Refusal.the-variants.{Length, Range, Order, Text}
+use Rattle.text.specs.Tally.{scanned}
+use Rattle.text.proofs.Small.{head-from-at}
+use Rattle.text.proofs.Filled.{stored-code}
+use Rattle.text.proofs.In.{refused, in-room, in-head, in-bad, in-many, in-range, in-order, in-table, ready, code-small}
+use borrow.Author.Needs.{needs}
+use Rattle.text.proofs.text_in.Statement.{statement}
+use Rattle.text.proofs.text_in.Tie as tie
+use Rattle.text.proofs.text_in.Reads as reads
+use Rattle.text.proofs.text_in.Lts as lts
+use Rattle.rows.proofs.numbers.production_of.Reads as production-of-reads
+use Rattle.text.proofs.passes.fill.Reads as fill-reads
+use Rattle.text.proofs.passes.scan.Reads as scan-reads
+use Rattle.text.proofs.ranged.Reads as ranged-reads
+use Rattle.text.proofs.reading.head_from.Reads as head-from-reads
+
+-- src/lib.rt:57:9
+returns : tie.Need-returns
+returns c = refused Length (in-room _ _ (c .if1 .taken))
+
+-- src/lib.rt:59:41
+head-from-requires : tie.Need-head-from-requires
+head-from-requires c κs = search needs
+
+-- src/lib.rt:59:24
+enum-known-code : tie.Need-enum-known-code
+enum-known-code c = search needs
+
+-- src/lib.rt:60:33
+enum-told : tie.Need-enum-told
+enum-told c = search needs
+
+-- src/lib.rt:60:9
+returns-2 : tie.Need-returns-2
+returns-2 c =
+    let h = c .before .before in
+    let t = h .before .before .before .args .text .now in
+    refused (Text 0) (in-head t _ (h .before .if1 .left) (sym (h .head-from .ensures) ∙ c .enum-told .given .1))
+
+-- src/lib.rt:62:23
+scan-requires : tie.Need-scan-requires
+scan-requires c κs =
+    let v = c .before in
+    let h = v .before .before in
+    let t = h .before .before .before .args .text .now in
+    head-from-at t _ _ _ (sym (h .head-from .ensures) ∙ v .code .given .1) .inside
+
+-- src/lib.rt:63:20
+enum-known-tally : tie.Need-enum-known-tally
+enum-known-tally c = search needs
+
+-- src/lib.rt:64:19
+enum-known-at : tie.Need-enum-known-at
+enum-known-at c = search needs
+
+-- src/lib.rt:64:26
+returns-3 : tie.Need-returns-3
+returns-3 c =
+    let r = c .before .before .before in
+    let v = r .before .before in
+    let h = v .before .before in
+    let t = h .before .before .before .args .text .now in
+    let wide = h .before .if1 .left in
+    let head = sym (h .head-from .ensures) ∙ v .code .given .1 in
+    let e = sym (r .scan .ensures) ∙ ap scanned (c .before .at .given .1) in
+    refused (Text _) (in-bad t _ wide _ _ _ head _ e)
+
+-- src/lib.rt:67:9
+returns-4 : tie.Need-returns-4
+returns-4 c =
+    let s = c .before .before .before in
+    let r = s .before .before in
+    let v = r .before .before in
+    let h = v .before .before in
+    let t = h .before .before .before .args .text .now in
+    let wide = h .before .if1 .left in
+    let head = sym (h .head-from .ensures) ∙ v .code .given .1 in
+    let e = sym (r .scan .ensures) ∙ ap scanned (s .tally .given .1) in
+    refused Length (in-many t _ wide _ _ _ head _ e (c .if2 .taken))
+
+-- src/lib.rt:69:9
+ranged-requires : tie.Need-ranged-requires
+ranged-requires c κs = search needs
+
+-- src/lib.rt:70:9
+returns-5 : tie.Need-returns-5
+returns-5 c =
+    let s = c .before .before .before .before .before in
+    let r = s .before .before in
+    let v = r .before .before in
+    let h = v .before .before in
+    let t = h .before .before .before .args .text .now in
+    let wide = h .before .if1 .left in
+    let head = sym (h .head-from .ensures) ∙ v .code .given .1 in
+    let e = sym (r .scan .ensures) ∙ ap scanned (s .tally .given .1) in
+    let q = c .before in
+    let out = sym (q .ranged .ensures) ∙ not-true (q .ranged .result) (c .if3 .taken) in
+    refused Range (in-range t _ wide _ _ _ head _ e (q .before .if2 .left) out)
+
+-- src/lib.rt:73:9
+returns-6 : tie.Need-returns-6
+returns-6 c =
+    let s = c .before .before .before .before .before .before .before in
+    let r = s .before .before in
+    let v = r .before .before in
+    let h = v .before .before in
+    let t = h .before .before .before .args .text .now in
+    let wide = h .before .if1 .left in
+    let head = sym (h .head-from .ensures) ∙ v .code .given .1 in
+    let e = sym (r .scan .ensures) ∙ ap scanned (s .tally .given .1) in
+    let q = c .before .before .before in
+    let ranged = sym (q .ranged .ensures) ∙ not-false (q .ranged .result) (c .before .before .if3 .left) in
+    let fallen = not-true (s .tally .given .0 .0 .rising) (c .if4 .taken) in
+    refused Order (in-order t _ wide _ _ _ head _ e (q .before .if2 .left) ranged fallen)
+
+-- src/lib.rt:75:5
+fill-requires : tie.Need-fill-requires
+fill-requires c κs =
+    let s = c .before .before .before .before .before .before .before .before in
+    let r = s .before .before in
+    let v = r .before .before in
+    let h = v .before .before in
+    let t = h .before .before .before .args .text .now in
+    let wide = h .before .if1 .left in
+    let head = sym (h .head-from .ensures) ∙ v .code .given .1 in
+    let e = sym (r .scan .ensures) ∙ ap scanned (s .tally .given .1) in
+    let q = c .before .before .before .before in
+    let ranged = sym (q .ranged .ensures) ∙ not-false (q .ranged .result) (c .before .before .before .if3 .left) in
+    (head-from-at t _ _ _ head .inside, ready t _ wide _ _ _ head _ e (q .before .if2 .left) ranged)
+
+-- src/lib.rt:76:28
+production-of-requires : tie.Need-production-of-requires
+production-of-requires c κs =
+    let s = c .before .before .before .before .before .before .before .before .before .before in
+    let r = s .before .before in
+    let v = r .before .before in
+    let h = v .before .before in
+    let t = h .before .before .before .args .text .now in
+    let wide = h .before .if1 .left in
+    let head = sym (h .head-from .ensures) ∙ v .code .given .1 in
+    let e = sym (r .scan .ensures) ∙ ap scanned (s .tally .given .1) in
+    let q = c .before .before .before .before .before .before in
+    let ranged = sym (q .ranged .ensures) ∙ not-false (q .ranged .result) (c .before .before .before .before .before .if3 .left) in
+    code-small t _ wide _ _ _ head _ e (q .before .if2 .left) ranged
+
+-- src/lib.rt:53:1
+same-length : tie.Need-same-length
+same-length c = search needs
+
+-- src/lib.rt:53:1
+returns-7 : tie.Need-returns-7
+returns-7 c =
+    let s = c .before .before .before .before .before .before .before .before .before .before .before in
+    let r = s .before .before in
+    let v = r .before .before in
+    let h = v .before .before in
+    let t = h .before .before .before .args .text .now in
+    let wide = h .before .if1 .left in
+    let head = sym (h .head-from .ensures) ∙ v .code .given .1 in
+    let e = sym (r .scan .ensures) ∙ ap scanned (s .tally .given .1) in
+    let q = c .before .before .before .before .before .before .before in
+    let ranged = sym (q .ranged .ensures) ∙ not-false (q .ranged .result) (c .before .before .before .before .before .before .if3 .left) in
+    let few = q .before .if2 .left in
+    let risen = not-false (s .tally .given .0 .0 .rising) (c .before .before .before .before .if4 .left) in
+    let small = code-small t _ wide _ _ _ head _ e few ranged in
+    let z = stored-code _ _ small (c .production-of .ensures) in
+    in-table t _ wide _ _ _ head _ e few ranged risen _ _ _ z (c .before .before .fill .ensures)
+
+pub text-in-spec : {M : Type 1} → statement M
+text-in-spec =
+    tie.close
+    (tie.spec
+    returns
+    head-from-requires
+    enum-known-code
+    enum-told
+    returns-2
+    scan-requires
+    enum-known-tally
+    enum-known-at
+    returns-3
+    returns-4
+    ranged-requires
+    returns-5
+    returns-6
+    fill-requires
+    production-of-requires
+    same-length
+    returns-7)
