@@ -2,3 +2,4 @@ pub mod Totals
 pub mod Entered
 pub mod Walked
 pub mod Codes
+pub mod Checked

@@ -53,14 +53,28 @@ fn asked(bytes: &[u8], lengths: &mut [usize], tokens: &mut [u16], out: &mut [i32
     let behind = slice::lengths(bytes, n.next, n.value, lengths);
     let m = number::unsigned(bytes, behind);
     let behind = slice::tokens(bytes, m.next, m.value, tokens);
-    let wide = number::unsigned(bytes, behind);
-    slice::fill(out);
-    let room = slice::room(out, wide.value);
-    let making = build::build(
+    called(
+        bytes,
+        behind,
         number::signed(production.value),
         slice::front_tokens(tokens, m.value),
         slice::front_lengths(lengths, n.value),
-        &mut out[..room],
-    );
+        out,
+    )
+}
+
+// The call, with as much of the output as the case says.
+fn called(
+    bytes: &[u8],
+    place: usize,
+    production: i32,
+    tokens: &[u16],
+    lengths: &[usize],
+    out: &mut [i32],
+) -> Outcome {
+    let wide = number::unsigned(bytes, place);
+    slice::fill(out);
+    let room = slice::room(out, wide.value);
+    let making = build::build(production, tokens, lengths, &mut out[..room]);
     answer::compared(bytes, wide.next, making, out)
 }

@@ -5,6 +5,7 @@ use cases::number;
 use cases::slice;
 use cases::tally;
 use cases::tally::Outcome;
+use paper::Mode;
 
 fn main() {
     let mut bytes = [0u8; 131072];
@@ -40,15 +41,30 @@ fn asked(bytes: &[u8], rows: &mut [i32], out: &mut [i32]) -> Outcome {
     let k = number::unsigned(bytes, prod0.next);
     let n = number::unsigned(bytes, k.next);
     let behind = slice::numbers(bytes, n.next, n.value, rows);
-    let wide = number::unsigned(bytes, behind);
-    slice::fill(out);
-    let room = slice::room(out, wide.value);
-    let making = shrink::shrink(
+    called(
+        bytes,
+        behind,
         answer::mode(mode.value),
         number::signed(prod0.value),
         k.value,
         slice::front_numbers(rows, n.value),
-        &mut out[..room],
-    );
+        out,
+    )
+}
+
+// The call, with as much of the output as the case says.
+fn called(
+    bytes: &[u8],
+    place: usize,
+    mode: Mode,
+    prod0: i32,
+    k: usize,
+    rows: &[i32],
+    out: &mut [i32],
+) -> Outcome {
+    let wide = number::unsigned(bytes, place);
+    slice::fill(out);
+    let room = slice::room(out, wide.value);
+    let making = shrink::shrink(mode, prod0, k, rows, &mut out[..room]);
     answer::compared(bytes, wide.next, making, out)
 }

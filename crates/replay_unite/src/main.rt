@@ -5,6 +5,7 @@ use cases::number;
 use cases::slice;
 use cases::tally;
 use cases::tally::Outcome;
+use paper::Mode;
 
 fn main() {
     let mut bytes = [0u8; 131072];
@@ -46,6 +47,7 @@ fn one(
     true
 }
 
+// The first table is read, then the second.
 fn asked(bytes: &[u8], a: &mut [i32], b: &mut [i32], out: &mut [i32]) -> Outcome {
     let source = number::unsigned(bytes, 0);
     let mode = number::unsigned(bytes, source.next);
@@ -53,22 +55,62 @@ fn asked(bytes: &[u8], a: &mut [i32], b: &mut [i32], out: &mut [i32]) -> Outcome
     let ka = number::unsigned(bytes, prod0a.next);
     let n = number::unsigned(bytes, ka.next);
     let behind = slice::numbers(bytes, n.next, n.value, a);
-    let prod0b = number::unsigned(bytes, behind);
-    let kb = number::unsigned(bytes, prod0b.next);
-    let m = number::unsigned(bytes, kb.next);
-    let behind = slice::numbers(bytes, m.next, m.value, b);
-    let wide = number::unsigned(bytes, behind);
-    slice::fill(out);
-    let room = slice::room(out, wide.value);
-    let making = unite::unite(
+    and_second(
+        bytes,
+        behind,
         answer::mode(mode.value),
         number::signed(prod0a.value),
         ka.value,
         slice::front_numbers(a, n.value),
+        b,
+        out,
+    )
+}
+
+fn and_second(
+    bytes: &[u8],
+    place: usize,
+    mode: Mode,
+    prod0a: i32,
+    ka: usize,
+    a: &[i32],
+    b: &mut [i32],
+    out: &mut [i32],
+) -> Outcome {
+    let prod0b = number::unsigned(bytes, place);
+    let kb = number::unsigned(bytes, prod0b.next);
+    let n = number::unsigned(bytes, kb.next);
+    let behind = slice::numbers(bytes, n.next, n.value, b);
+    called(
+        bytes,
+        behind,
+        mode,
+        prod0a,
+        ka,
+        a,
         number::signed(prod0b.value),
         kb.value,
-        slice::front_numbers(b, m.value),
-        &mut out[..room],
-    );
+        slice::front_numbers(b, n.value),
+        out,
+    )
+}
+
+// The call, with as much of the output as the case says.
+fn called(
+    bytes: &[u8],
+    place: usize,
+    mode: Mode,
+    prod0a: i32,
+    ka: usize,
+    a: &[i32],
+    prod0b: i32,
+    kb: usize,
+    b: &[i32],
+    out: &mut [i32],
+) -> Outcome {
+    let wide = number::unsigned(bytes, place);
+    slice::fill(out);
+    let room = slice::room(out, wide.value);
+    let making = unite::unite(mode, prod0a, ka, a, prod0b, kb, b, &mut out[..room]);
     answer::compared(bytes, wide.next, making, out)
 }

@@ -1,13 +1,11 @@
 -- Where `insert` puts a row and which rows `give` changes, as an edit of the rows at one place. Assumes nothing.
 use mathlib.Core.Path.{_≡_, refl, sym, _∙_, ap, ap₂}
-use mathlib.Core.Bool.{Bool, true, false, cond}
+use mathlib.Core.Bool.{true, false}
 use mathlib.Core.Option.{Option}
 use mathlib.Core.List.{List, [], _∷_, _++_, map, Memᴰ·append-left, Memᴰ·append-right}
 use Prim.Native.Nat.{ℕ}
-use native.Mathlib.Omega.{arith}
-use lib.Dec.{eqb}
 use borrow.Author.Tests.{eq-eqb, ne-eqb}
-use Rattle.laws.proofs.Members.{In, here, there, nowhere, where-in}
+use Rattle.laws.proofs.Members.{In, here, there}
 use Rattle.laws.proofs.RowsRise.{RowsRise}
 use Rattle.paper.specs.Rows.{Row, Table}
 use Rattle.paper.specs.Checks.{before}

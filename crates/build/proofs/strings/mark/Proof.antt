@@ -1,3 +1,5 @@
+use native.Mathlib.Omega.{arith}
+use Rattle.build.proofs.Walked.{mark-root, giving, mark-row}
 use borrow.Author.Needs.{needs}
 use Rattle.build.proofs.strings.mark.Statement.{statement}
 use Rattle.build.proofs.strings.mark.Tie as tie

@@ -1,3 +1,5 @@
+use native.Mathlib.Omega.{arith}
+use Rattle.build.proofs.Codes.{recodes-root, recodes-none}
 use borrow.Author.Needs.{needs}
 use Rattle.build.proofs.strings.next_code.Statement.{statement}
 use Rattle.build.proofs.strings.next_code.Tie as tie

@@ -1,3 +1,11 @@
+use mathlib.Core.Path.{_≡_, refl, ap, sym, _∙_}
+use Prim.Native.Nat.{ℕ, _+_, _-_, _≤_}
+use native.Mathlib.Omega.{arith}
+use lib.ListN.{length, getD, drop}
+use borrow.Author.Needs.{needs}
+use Rattle.build.specs.Steps.{standing}
+use Rattle.build.proofs.Entered.{state-small}
+use Rattle.build.proofs.Walked.{Walking, walk-starts, walk-on, walk-full, walk-ends}
 use Rattle.build.proofs.strings.walk.Statement.{statement}
 use Rattle.build.proofs.strings.walk.Tie as tie
 use Rattle.build.proofs.strings.walk.Reads as reads
@@ -5,22 +13,22 @@ use Rattle.build.proofs.strings.walk.Lts as lts
 use Rattle.build.proofs.strings.enter.Reads as enter-reads
 
 abbrev Inv-loop : tie.InvT-loop
-Inv-loop buf₀ n string m₀ s₀ row₀ i₀ buf m s row i = ?
+Inv-loop buf₀ n string m₀ s₀ row₀ i₀ buf m s row i = Walking (standing buf₀ n 0) string buf m (s .0) row i
 
 abbrev μ-loop : tie.MeasureT-loop
-μ-loop buf₀ n string m₀ s₀ row₀ i₀ buf m s row i = ?
+μ-loop buf₀ n string m₀ s₀ row₀ i₀ buf m s row i = length string - i
 
 -- src/strings.rt:78:5
 loop-holds : tie.Need-loop-holds Inv-loop μ-loop
-loop-holds c = ?
+loop-holds c = walk-starts (c .before .args .buf .now) (c .before .args .n) (c .before .args .string .now) (c .before .pre)
 
 -- src/strings.rt:79:46
 mul-t12 : tie.Need-mul-t12 Inv-loop μ-loop
-mul-t12 c = ?
+mul-t12 c = search needs
 
 -- src/strings.rt:79:46
 shared-slice-read-t17 : tie.Need-shared-slice-read-t17 Inv-loop μ-loop
-shared-slice-read-t17 c = ?
+shared-slice-read-t17 c = search needs
 
 -- src/strings.rt:79:13
 enter-requires : tie.Need-enter-requires Inv-loop μ-loop
@@ -28,15 +36,15 @@ enter-requires c κs = ?
 
 -- src/strings.rt:80:24
 enum-known-step : tie.Need-enum-known-step Inv-loop μ-loop
-enum-known-step c = ?
+enum-known-step c = search needs
 
 -- src/strings.rt:81:13
 enum-told : tie.Need-enum-told Inv-loop μ-loop
-enum-told c = ?
+enum-told c = search needs
 
 -- src/strings.rt:81:13
 same-length : tie.Need-same-length Inv-loop μ-loop
-same-length c = ?
+same-length c = search needs
 
 -- src/strings.rt:81:13
 returns : tie.Need-returns Inv-loop μ-loop
@@ -44,11 +52,11 @@ returns c = ?
 
 -- src/strings.rt:86:9
 add-i : tie.Need-add-i Inv-loop μ-loop
-add-i c = ?
+add-i c = search needs
 
 -- src/strings.rt:78:5
 loop-less : tie.Need-loop-less Inv-loop μ-loop
-loop-less c = ?
+loop-less c = search needs
 
 -- src/strings.rt:78:5
 loop-again : tie.Need-loop-again Inv-loop μ-loop
@@ -56,7 +64,7 @@ loop-again c = ?
 
 -- src/strings.rt:70:1
 same-length-2 : tie.Need-same-length-2 Inv-loop μ-loop
-same-length-2 c = ?
+same-length-2 c = search needs
 
 -- src/strings.rt:70:1
 returns-2 : tie.Need-returns-2 Inv-loop μ-loop
