@@ -23,11 +23,11 @@ pub pad-length : (i n : ℕ) → length (pad i n) ≡ i
 pad-length zero n = refl
 pad-length (suc i) n = length-append (pad i (n / 10)) _ ∙ rw (pad-length i (n / 10)) (add-one i)
 
-digits-less : (f n : ℕ) → n < 10 → digits (suc f) n ≡ (48 + n) ∷ []
+pub digits-less : (f n : ℕ) → n < 10 → digits (suc f) n ≡ (48 + n) ∷ []
 unfolding digits
 digits-less f n h = rw (lt-ltb n 10 h)
 
-digits-more : (f n : ℕ) → 10 ≤ n → digits (suc f) n ≡ digits f (n / 10) ++ ((48 + n % 10) ∷ [])
+pub digits-more : (f n : ℕ) → 10 ≤ n → digits (suc f) n ≡ digits f (n / 10) ++ ((48 + n % 10) ∷ [])
 unfolding digits
 digits-more f n h = rw (le-ltb n 10 h)
 

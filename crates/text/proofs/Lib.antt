@@ -18,3 +18,4 @@ pub mod Climbs
 pub mod Filled
 pub mod In
 pub mod Fours
+pub mod Decimal

@@ -12,7 +12,7 @@ use lib.Seq.{drop-cons}
 use Rattle.paper.specs.Text.{is-digit, digit-count, value}
 use Rattle.rows.proofs.Rest.{by-test, both}
 
-digit-yes : (b : ℕ) → 48 ≤ b → b ≤ 57 → is-digit b ≡ true
+pub digit-yes : (b : ℕ) → 48 ≤ b → b ≤ 57 → is-digit b ≡ true
 unfolding is-digit
 digit-yes b h k = rw (le-leb 48 b h, le-leb b 57 k)
 
@@ -24,7 +24,7 @@ digit-high : (b : ℕ) → 57 < b → is-digit b ≡ false
 unfolding is-digit
 digit-high b h = let k : 48 ≤ b = omega arith in rw (le-leb 48 b k, lt-leb b 57 h)
 
-digit-of : (b : ℕ) → is-digit b ≡ true → (48 ≤ b) × (b ≤ 57)
+pub digit-of : (b : ℕ) → is-digit b ≡ true → (48 ≤ b) × (b ≤ 57)
 unfolding is-digit
 digit-of b e = let h = both (leb 48 b) (leb b 57) e in (leb-true 48 b (h .0), leb-true b 57 (h .1))
 

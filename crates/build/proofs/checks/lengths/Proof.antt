@@ -1,3 +1,6 @@
+use mathlib.Core.Path.{ap, sym, _∙_}
+use mathlib.Core.Bool.{not}
+use Rattle.build.proofs.Checked.{room-out, many-out, sums-left}
 use borrow.Author.Needs.{needs}
 use Rattle.build.proofs.checks.lengths.Statement.{statement}
 use Rattle.build.proofs.checks.lengths.Tie as tie
@@ -7,11 +10,15 @@ use Rattle.build.proofs.checks.sums.Reads as sums-reads
 
 -- src/checks.rt:46:9
 returns : tie.Need-returns
-returns c = ?
+returns c =
+    let a = c .before .before .before .args in
+    room-out (a .tokens .now) (a .lengths .now) (a .room) (c .if1 .taken)
 
 -- src/checks.rt:49:9
 returns-2 : tie.Need-returns-2
-returns-2 c = ?
+returns-2 c =
+    let a = c .before .before .before .before .args in
+    many-out (a .tokens .now) (a .lengths .now) (a .room) (c .before .if1 .left) (c .if2 .taken)
 
 -- src/checks.rt:51:6
 sums-requires : tie.Need-sums-requires
@@ -19,7 +26,10 @@ sums-requires c κs = search needs
 
 -- src/checks.rt:42:1
 returns-3 : tie.Need-returns-3
-returns-3 c = ?
+returns-3 c =
+    let a = c .before .before .before .before .before .args in
+    ap not (c .sums .ensures)
+    ∙ sums-left (a .tokens .now) (a .lengths .now) (a .room) (c .before .before .if1 .left) (c .before .if2 .left)
 
 pub lengths-spec : {M : Type 1} → statement M
 lengths-spec = tie.close (tie.spec returns returns-2 sums-requires returns-3)

@@ -13,14 +13,16 @@ use Rattle.build.proofs.strings.walk.Lts as lts
 use Rattle.build.proofs.strings.enter.Reads as enter-reads
 
 abbrev Inv-loop : tie.InvT-loop
-Inv-loop buf₀ n string m₀ s₀ row₀ i₀ buf m s row i = Walking (standing buf₀ n 0) string buf m (s .0) row i
+Inv-loop buf₀ n string m₀ s₀ row₀ i₀ buf m s row i =
+    (length buf ≡ length buf₀) × Walking (standing buf₀ n 0) string buf m (s .0) row i
 
 abbrev μ-loop : tie.MeasureT-loop
 μ-loop buf₀ n string m₀ s₀ row₀ i₀ buf m s row i = length string - i
 
 -- src/strings.rt:78:5
 loop-holds : tie.Need-loop-holds Inv-loop μ-loop
-loop-holds c = walk-starts (c .before .args .buf .now) (c .before .args .n) (c .before .args .string .now) (c .before .pre)
+loop-holds c =
+    (refl, walk-starts (c .before .args .buf .now) (c .before .args .n) (c .before .args .string .now) (c .before .pre))
 
 -- src/strings.rt:79:46
 mul-t12 : tie.Need-mul-t12 Inv-loop μ-loop
@@ -28,11 +30,14 @@ mul-t12 c = search needs
 
 -- src/strings.rt:79:46
 shared-slice-read-t17 : tie.Need-shared-slice-read-t17 Inv-loop μ-loop
-shared-slice-read-t17 c = search needs
+shared-slice-read-t17 c = omega arith
 
 -- src/strings.rt:79:13
 enter-requires : tie.Need-enter-requires Inv-loop μ-loop
-enter-requires c κs = ?
+enter-requires c κs =
+    let l = c .before .before .before in
+    let w = l .loop .inv .1 in
+    (w .laid, state-small (l .loop .buf) (l .loop .m) (l .loop .s .0) (l .loop .row) (w .laid) (w .leads))
 
 -- src/strings.rt:80:24
 enum-known-step : tie.Need-enum-known-step Inv-loop μ-loop
@@ -44,31 +49,49 @@ enum-told c = search needs
 
 -- src/strings.rt:81:13
 same-length : tie.Need-same-length Inv-loop μ-loop
-same-length c = search needs
+same-length c =
+    let e = c .before .before .before in
+    e .enter .kept .0 ∙ e .before .before .before .before .loop .inv .0
 
 -- src/strings.rt:81:13
 returns : tie.Need-returns Inv-loop μ-loop
-returns c = ?
+returns c =
+    let e = c .before .before .before in
+    let l = e .before .before .before .before in
+    let a = l .before .before .args in
+    walk-full (standing (a .buf .now) (a .n) 0) (a .string .now) (l .loop .buf) (l .loop .m) (l .loop .s .0)
+      (l .loop .row) (l .loop .i) (l .loop .inv .1) (omega arith) (rw (c .enum-told .given .1) at (e .enter .ensures))
 
 -- src/strings.rt:86:9
 add-i : tie.Need-add-i Inv-loop μ-loop
-add-i c = search needs
+add-i c = omega arith
 
 -- src/strings.rt:78:5
 loop-less : tie.Need-loop-less Inv-loop μ-loop
-loop-less c = search needs
+loop-less c = omega arith
 
 -- src/strings.rt:78:5
 loop-again : tie.Need-loop-again Inv-loop μ-loop
-loop-again c = ?
+loop-again c =
+    let e = c .before .before .before .before in
+    let l = e .before .before .before .before in
+    let a = l .before .before .args in
+    (e .enter .kept .0 ∙ l .loop .inv .0,
+     walk-on (standing (a .buf .now) (a .n) 0) (a .string .now) (l .loop .buf) (l .loop .m) (l .loop .s .0)
+       (l .loop .row) (l .loop .i) (l .loop .inv .1) (omega arith) _ _ _ _
+       (rw (c .before .step .given .1) at (e .enter .ensures)))
 
 -- src/strings.rt:70:1
 same-length-2 : tie.Need-same-length-2 Inv-loop μ-loop
-same-length-2 c = search needs
+same-length-2 c = c .before .loop .inv .0
 
 -- src/strings.rt:70:1
 returns-2 : tie.Need-returns-2 Inv-loop μ-loop
-returns-2 c = ?
+returns-2 c =
+    let l = c .before in
+    let a = l .before .before .args in
+    walk-ends (standing (a .buf .now) (a .n) 0) (a .string .now) (l .loop .buf) (l .loop .m) (l .loop .s .0)
+      (l .loop .row) (l .loop .i) (l .loop .inv .1) (c .loop-test .left)
 
 pub walk-spec : {M : Type 1} → statement M
 walk-spec =
