@@ -3,3 +3,4 @@ pub mod Entered
 pub mod Walked
 pub mod Codes
 pub mod Checked
+pub mod Listed

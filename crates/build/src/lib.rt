@@ -22,15 +22,7 @@ fn written(production: Production, tokens: &[u16], lengths: &[usize], out: &mut 
     let made = strings::add_strings(&mut buf, production, tokens, lengths);
     match made {
         Table::Full => Making::Refused(Refusal::Full),
-        Table::Rows { rows, code, k } => {
-            grow::copy_front(&buf[..rows * 4], out);
-            Making::Made {
-                prod0: numbers::production_of(code),
-                k,
-                rows,
-                states: rows + 1,
-            }
-        }
+        Table::Rows { rows, code, k } => grow::finish(&buf, rows, code, k, out),
     }
 }
 

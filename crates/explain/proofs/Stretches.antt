@@ -12,22 +12,26 @@ use Rattle.paper.specs.Rows.{Row, rows-in, table, leaving, begin}
 use Rattle.paper.specs.Answers.{Ruling, accept, refuse, number, detail}
 use Rattle.paper.specs.Checks.{row-slice, plain}
 use Rattle.paper.specs.Explain.{
-    Stop, Stretch, stop, at-end, left-rows, explain, matched-count, stretch-of, stretch
+    Stop, Stretch, stop, at-end, left-rows, explain, matched-count, stretch-of, stretch, PartOf
 }
+use denote.Ref.{RefT}
+use Rattle.explain.specs.declared.Part.{Part}
+use Rattle.explain.specs.Stopped.{Lies}
 use Rattle.rows.specs.Search.{Leaves}
 use Rattle.rows.specs.Verdicts.{Judges, follow}
 use Rattle.rows.specs.declared.verdict.Verdict.{Verdict}
 use Rattle.rows.specs.declared.verdict.Verdict.the-variants.{Pass, Refused}
 use Rattle.rows.proofs.Judged.{judged}
 
-same-stretch : {a b c d : ℕ} → a ≡ b → c ≡ d → _≡_ {A = Stretch} (record { start = a; count = c }) (record { start = b; count = d })
-same-stretch e f = λ i. record { start = e i; count = f i }
-
 module _ (ns : List ℤ) where
-  -- the empty part at the end, as the code makes it
-  pub end-part : _≡_ {A = Stretch} (record { start = length ns; count = length ns - length ns }) (at-end ns)
+  -- the empty part at the end
+  pub lies-at-end : {s : Stretch} → at-end ns ≡ s → Lies ns s (record { start = length ns; count = 0 })
   unfolding at-end
-  end-part = same-stretch refl (omega arith)
+  lies-at-end e = record {
+    starts = ap (λ (x : Stretch). x .start) e;
+    counts = ap (λ (x : Stretch). x .count) e;
+    within = omega arith;
+  }
 
   module _ (w : Stop) where
     pub all-matched : w .left-over ≡ false → at-end ns ≡ left-rows ns (rows-in ns) w
@@ -41,17 +45,29 @@ module _ (ns : List ℤ) where
           let z : leaving (rows-in ns) (w .state) ≡ 0 = sym (l .counts) ∙ e in
           simp (o, eq-eqb _ _ z)
 
-      pub some-rows : (count ≡ 0 → ⊥)
-          → _≡_ {A = Stretch} (record { start = first * 4; count = (first + count) * 4 - first * 4 })
-            (left-rows ns (rows-in ns) w)
+      -- the rows of the state
+      pub lies-there : (count ≡ 0 → ⊥)
+          → Lies ns (left-rows ns (rows-in ns) w) (record { start = first * 4; count = count * 4 })
       unfolding left-rows
-      some-rows n =
+      lies-there n =
           let z : leaving (rows-in ns) (w .state) ≡ 0 → ⊥ = λ e. n (l .counts ∙ e) in
-          let a : first * 4 ≡ begin (rows-in ns) (w .state) * 4 = ap (λ (m : ℕ). m * 4) (l .begins) in
-          let d : (first + count) * 4 - first * 4 ≡ count * 4 = omega arith in
-          let b : (first + count) * 4 - first * 4 ≡ leaving (rows-in ns) (w .state) * 4 =
-              d ∙ ap (λ (m : ℕ). m * 4) (l .counts) in
-          simp (o, ne-eqb _ _ z) (same-stretch a b)
+          record {
+            starts = simp (o, ne-eqb _ _ z) (ap (λ (m : ℕ). m * 4) (l .begins));
+            counts = simp (o, ne-eqb _ _ z) (ap (λ (m : ℕ). m * 4) (l .counts));
+            within = omega (arith, l .within);
+          }
+
+-- a part of the slice that lies where the stretch lies is the stretch
+pub part-is : (slice part : RefT (List ℤ)) (s : Stretch) (r : Part) → Lies (slice .now) s r
+    → PartOf slice part (record { start = r .start; count = r .start + r .count - r .start }) → PartOf slice part s
+part-is slice part s r l p =
+    let a : r .start ≡ s .start = l .starts in
+    let d : r .start + r .count - r .start ≡ s .count = omega (arith, l .counts) in
+    record {
+      holds = rw (← d, ← a) (p .holds);
+      block = p .block;
+      offset = rw (← a) (p .offset);
+    }
 
 module _ (p : ℤ) (k : ℕ) (ns : List ℤ) (ts : List ℕ) where
   explain-length : row-slice ns ≡ true → explain p k ns ts ≡ refuse 1 []

@@ -10,9 +10,9 @@ ghost use Prim.Native.Nat.{_+_, _-_, _*_, _/_, _<_, _≤_};
 ghost use lib.ListN.{length};
 ghost use Rattle.paper.specs.Rows.{rows-in};
 ghost use Rattle.paper.specs.Answers.{explained};
-ghost use Rattle.paper.specs.Explain.{Stretch, stop, at-end, left-rows, matched-count, stretch, PartOf};
+ghost use Rattle.paper.specs.Explain.{stop, left-rows, matched-count, stretch, PartOf};
 ghost use Rattle.rows.specs.Search.{Passed};
-ghost use Rattle.explain.specs.Stopped.{stopped};
+ghost use Rattle.explain.specs.Stopped.{stopped, Lies};
 
 // Where the walk stopped: the state, the count of matched tokens, and whether a token was left over.
 pub struct Stop {
@@ -70,44 +70,59 @@ pub fn matched(prod0: i32, k: usize, rows: &[i32], tokens: &[u16]) -> Explanatio
     }
 }
 
+// A stretch of a row slice: where it begins and how long it is, in numbers.
+pub struct Part {
+    pub start: usize,
+    pub count: usize,
+}
+
+// The rows that leave the state where a walk stopped, in rows that passed 1 to 3.
+fn left_rows(rows: &[i32], s: Stop) -> Part
+    requires { ⌜ Passed (now rows) ⌝ }
+    ensures { λ r. ⌜ Lies (now (rows .entry)) (left-rows (now (rows .entry)) (rows-in (now (rows .entry))) (stopped s)) r ⌝ }
+{
+    let n = rows.len();
+    if !s.more {
+        return Part { start: n, count: 0 };
+    }
+    let state = s.state;
+    let span = rows::search::leaving(rows, state.0 as usize);
+    if span.count == 0 {
+        return Part { start: n, count: 0 };
+    }
+    Part {
+        start: span.begin * 4,
+        count: span.count * 4,
+    }
+}
+
+// Where the rows that leave the stopped state lie; at the slice's end, and none, after a refusal.
+pub fn place(prod0: i32, k: usize, rows: &[i32], tokens: &[u16]) -> Part
+    ensures { λ r. ⌜ Lies (now (rows .entry)) (stretch prod0 k (now (rows .entry)) (now (tokens .entry))) r ⌝ }
+{
+    let n = rows.len();
+    if rows::checks::row_slice(rows) {
+        return Part { start: n, count: 0 };
+    }
+    let verdict = rows::verdict::plain(prod0, k, rows);
+    let Verdict::Pass = verdict else {
+        return Part { start: n, count: 0 };
+    };
+    left_rows(rows, walked(rows, tokens))
+}
+
 // The numbers of a slice from a to e.
-fn part(rows: &[i32], a: usize, e: usize) -> &[i32]
+fn between(rows: &[i32], a: usize, e: usize) -> &[i32]
     requires { ⌜ (a ≤ e) × (e ≤ length (now rows)) ⌝ }
     ensures { λ r. ⌜ PartOf (rows .entry) r (record { start = a; count = e - a }) ⌝ }
 {
     &rows[a..e]
 }
 
-// The rows that leave the state where a walk stopped, in rows that passed 1 to 3.
-fn left_rows(rows: &[i32], s: Stop) -> &[i32]
-    requires { ⌜ Passed (now rows) ⌝ }
-    ensures { λ r. ⌜ PartOf (rows .entry) r (left-rows (now (rows .entry)) (rows-in (now (rows .entry))) (stopped s)) ⌝ }
-{
-    let n = rows.len();
-    if !s.more {
-        return part(rows, n, n);
-    }
-    let state = s.state;
-    let span = rows::search::leaving(rows, state.0 as usize);
-    let count = span.count;
-    if count == 0 {
-        return part(rows, n, n);
-    }
-    let begin = span.begin;
-    part(rows, begin * 4, (begin + count) * 4)
-}
-
 // Explain, the second call: the rows that leave the stopped state, as a part of the caller's own slice.
 pub fn stretch<'a>(prod0: i32, k: usize, rows: &'a [i32], tokens: &[u16]) -> &'a [i32]
     ensures { λ r. ⌜ PartOf (rows .entry) r (stretch prod0 k (now (rows .entry)) (now (tokens .entry))) ⌝ }
 {
-    let n = rows.len();
-    if rows::checks::row_slice(rows) {
-        return part(rows, n, n);
-    }
-    let verdict = rows::verdict::plain(prod0, k, rows);
-    let Verdict::Pass = verdict else {
-        return part(rows, n, n);
-    };
-    left_rows(rows, walked(rows, tokens))
+    let p = place(prod0, k, rows, tokens);
+    between(rows, p.start, p.start + p.count)
 }

@@ -3,3 +3,4 @@ pub mod Written
 pub mod Placed
 pub mod Painted
 pub mod Fronts
+pub mod Answered

@@ -5,7 +5,7 @@ use mathlib.Core.List.{List, map}
 use Prim.Native.Nat.{ℕ, suc, _+_, _*_, _≤_, _<_}
 use lib.ListN.{length, take}
 use lib.IntN.{ℤ}
-use Rattle.paper.specs.Rows.{Row, rows-in, find}
+use Rattle.paper.specs.Rows.{Row, Table, rows-in, find}
 use Rattle.paper.specs.Build.{insert}
 use Rattle.rows.specs.Places.{row-at, uncoded}
 use Rattle.rows.specs.Search.{Passed, Lower}
@@ -25,6 +25,10 @@ pub record Laid (buf : List ℤ) (n : ℕ) : Type 0 where
   pub few : n ≤ 1023
   pub room : 4092 ≤ length buf
   pub passed : Passed (take (n * 4) buf)
+
+-- The table of these rows, with the code of its prod0.
+abbrev pub table-of : ℕ → ℕ → List ℤ → ℕ → Table
+table-of code k buf n = record { prod0 = uncoded code; k = k; rows = held buf n }
 
 -- A row from s by t to the next state, whose place among the n rows is i.
 pub record Adding (buf : List ℤ) (n i s t code : ℕ) : Type 0 where

@@ -1,12 +1,14 @@
 // Rows that grow: a row put where it belongs, or given a production, in a lent array.
-use paper::{State, Terminal};
+use paper::{Making, State, Terminal};
 use rows::numbers;
 
 ghost use mathlib.Core.Path.{_≡_};
 ghost use Prim.Native.Nat.{_+_, _*_, _<_, _≤_};
 ghost use lib.ListN.{length};
+ghost use Rattle.paper.specs.Answers.{Makes};
+ghost use Rattle.paper.specs.Build.{within};
 ghost use Rattle.grow.specs.Moves.{over-row, up-row, opened, inserted, front};
-ghost use Rattle.grow.specs.Held.{Adding, Added, Giving, Given};
+ghost use Rattle.grow.specs.Held.{Laid, table-of, Adding, Added, Giving, Given};
 
 // Row i becomes four numbers.
 fn put_row(buf: &mut [i32], i: usize, w: i32, x: i32, y: i32, z: i32)
@@ -81,5 +83,19 @@ pub fn copy_front(src: &[i32], out: &mut [i32])
     while i < src.len() {
         out[i] = src[i];
         i += 1;
+    }
+}
+
+// A table whose rows stand in the array: its rows at the front of the output, and the answer.
+pub fn finish(buf: &[i32], n: usize, code: usize, k: usize, out: &mut [i32]) -> Making
+    requires { ⌜ Laid (now buf) n × (code ≤ 65536) × (16384 ≤ length (now out)) ⌝ }
+    ensures { λ r. ⌜ Makes (within (table-of code k (now (buf .entry)) n)) r (now (out .entry)) (now (out .exit)) ⌝ }
+{
+    copy_front(&buf[..n * 4], out);
+    Making::Made {
+        prod0: numbers::production_of(code),
+        k,
+        rows: n,
+        states: n + 1,
     }
 }

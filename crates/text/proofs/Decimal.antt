@@ -7,7 +7,8 @@ use native.Mathlib.Omega.{arith}
 use native.Mathlib.Nat.{mod-lt, div-add-mod', pow-suc, add-zero}
 use borrow.Author.Tests.{ltb-true, ltb-false, le-leb, leb-true, eqb-true, eqb-false, ne-eqb, not-true}
 use lib.Dec.{eqb, ltb, leb}
-use lib.ListN.{length, getD, take, drop, length-append, List·getD-append}
+use lib.ListN.{length, getD, take, drop, length-append, take-append-drop, List·getD-append}
+use lib.Seq.{getD-take}
 use Rattle.paper.specs.Text.{digits, is-digit, digit-count, value, in-form}
 use Rattle.rows.proofs.Rest.{by-test, both}
 use Rattle.text.proofs.Digits.{digits-less, digits-more, width-less, width-most}
@@ -114,9 +115,10 @@ grown f m (d ∷ ds) h k =
     let e : f + suc (length ds) ≡ suc f + length ds = omega arith in
     let q : n / 10 ≡ m = omega arith in
     let r : 48 + n % 10 ≡ d = omega arith in
+    let g : digits (suc f) n ≡ digits f m ++ (d ∷ []) = digits-more f n (omega arith) ∙ rw (q, r) in
     rw e
     (grown (suc f) n ds (omega arith) (k .1)
-      ∙ ap (λ (x : List ℕ). x ++ ds) (digits-more f n (omega arith) ∙ rw (q, r))
+      ∙ ap (λ (x : List ℕ). x ++ ds) g
       ∙ append-assoc (digits f m) (d ∷ []) ds)
 
 -- the digits at the front
@@ -140,4 +142,38 @@ rebuilt (d ∷ []) k a b e =
     let h = digit-of d (k .0) in
     let z : 48 + (0 * 10 + (d - 48)) ≡ d = omega arith in
     digits-less 4 (0 * 10 + (d - 48)) (omega arith) ∙ rw z
-rebuilt (d ∷ c ∷ ds) k a b e = ?
+rebuilt (d ∷ c ∷ ds) k a b e =
+    let h = digit-of d (k .0) in
+    let one : eqb (suc (suc (length ds))) 1 ≡ false = ne-eqb (suc (suc (length ds))) 1 (λ q. omega arith) in
+    let l : not (eqb d 48) ≡ true = rw one at e in
+    let n = eqb-false d 48 (not-true (eqb d 48) l) in
+    let m = 0 * 10 + (d - 48) in
+    let f = 4 - length (c ∷ ds) in
+    let z : 48 + m ≡ d = omega arith in
+    let s : suc f + length (c ∷ ds) ≡ 5 = omega arith in
+    let g : digits (suc f + length (c ∷ ds)) (num m (c ∷ ds)) ≡ digits (suc f) m ++ (c ∷ ds) =
+        grown (suc f) m (c ∷ ds) (omega arith) (k .1) in
+    let w : digits (suc f) m ≡ d ∷ [] = digits-less f m (omega arith) ∙ rw z in
+    (rw s at g) ∙ rw w
+
+lead-length : (bs : List ℕ) → length (lead bs) ≡ digit-count bs
+unfolding digit-count
+lead-length [] = refl
+lead-length (b ∷ bs) = by-test (is-digit b) (λ e. rw e (ap suc (lead-length bs))) (λ e. rw e)
+
+lead-first : (bs : List ℕ) → 1 ≤ digit-count bs → getD (lead bs) 0 0 ≡ getD bs 0 0
+lead-first bs h = getD-take (digit-count bs) bs 0 0 h
+
+pub formed-digits : (bs : List ℕ) → in-form bs ≡ true →
+    digits 5 (value (digit-count bs) 0 bs) ++ drop (digit-count bs) bs ≡ bs
+unfolding in-form
+formed-digits bs e =
+    let h = both (leb 1 (digit-count bs) && leb (digit-count bs) 5) _ e in
+    let g = both (leb 1 (digit-count bs)) (leb (digit-count bs) 5) (h .0) in
+    let a = leb-true 1 (digit-count bs) (g .0) in
+    let b = leb-true (digit-count bs) 5 (g .1) in
+    let n = lead-length bs in
+    let f : (eqb (length (lead bs)) 1 || not (eqb (getD (lead bs) 0 0) 48)) ≡ true = rw (n, lead-first bs a) (h .1) in
+    ap (λ (x : ℕ). digits 5 x ++ drop (digit-count bs) bs) (lead-number 0 bs)
+    ∙ ap (λ (x : List ℕ). x ++ drop (digit-count bs) bs) (rebuilt (lead bs) (lead-digits bs) (omega arith) (omega arith) f)
+    ∙ take-append-drop (digit-count bs) bs

@@ -22,11 +22,11 @@ use Rattle.text.specs.Pieces.{starts, number-at, as-code, production-at,
 use Rattle.text.proofs.Starts.{past-starts, starts-within}
 
 -- the rest of a form after a word
-abbrev after : List Piece → Option (List ℕ) → Option (List ℤ)
+abbrev pub after : List Piece → Option (List ℕ) → Option (List ℤ)
 after ps none = none
 after ps (some bs) = read ps bs
 
-read-after : (w : String) (ps : List Piece) (bs : List ℕ) (o : Option (List ℕ)) → past (bytes w) bs ≡ o →
+pub read-after : (w : String) (ps : List Piece) (bs : List ℕ) (o : Option (List ℕ)) → past (bytes w) bs ≡ o →
     read (word w ∷ ps) bs ≡ after ps o
 unfolding read
 read-after w ps bs none e = rw (e, read)
@@ -65,11 +65,11 @@ module _ (l : List ℕ) (at : ℕ) (ps : List Piece) where
       (λ f. rw f)
 
 -- the rest of a form after a production, by what follows -1
-abbrev signed-after : List Piece → List ℕ → Option (List ℕ) → Option (List ℤ)
+abbrev pub signed-after : List Piece → List ℕ → Option (List ℕ) → Option (List ℤ)
 signed-after ps bs none = read (count ∷ ps) bs
 signed-after ps bs (some r) = and-then (negsuc 0) (read ps r)
 
-read-signed : (ps : List Piece) (bs : List ℕ) (o : Option (List ℕ)) → past (bytes "-1") bs ≡ o →
+pub read-signed : (ps : List Piece) (bs : List ℕ) (o : Option (List ℕ)) → past (bytes "-1") bs ≡ o →
     read (production ∷ ps) bs ≡ signed-after ps bs o
 unfolding read
 read-signed ps bs none e = rw (e, read)

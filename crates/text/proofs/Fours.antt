@@ -20,7 +20,7 @@ abbrev sized : Option (List ℤ) → Type 0
 sized (some ns) = length ns ≡ 4
 sized none = Unit
 
-abbrev size : Ruling (List ℤ) → ℕ → Type 0
+abbrev pub size : Ruling (List ℤ) → ℕ → Type 0
 size (accept ns) n = length ns ≡ n
 size (refuse m d) n = Unit
 
@@ -32,7 +32,7 @@ read-four : (b : Bool) (l : List ℕ) → sized (cond b (read row-form l) none)
 read-four true l = rw (row-is-read l 0) at (told-four (row-of l 0))
 read-four false l = tt
 
-line-four : (at : ℕ) (l : Line) → size (read-line row-form at l) 4
+pub line-four : (at : ℕ) (l : Line) → size (read-line row-form at l) 4
 unfolding read-line
 line-four at l = go (cond (l .ended) (read row-form (l .bytes)) none) (read-four (l .ended) (l .bytes))
   where
@@ -40,7 +40,7 @@ line-four at l = go (cond (l .ended) (read row-form (l .bytes)) none) (read-four
     go (some ns) k = k
     go none k = tt
 
-rows-four : (at : ℕ) (ls : List Line) → size (read-rows at ls) (length ls * 4)
+pub rows-four : (at : ℕ) (ls : List Line) → size (read-rows at ls) (length ls * 4)
 unfolding read-rows
 rows-four at [] = refl
 rows-four at (l ∷ ls) = go (read-line row-form at l) (line-four at l) (read-rows (at + length (l .bytes) + 1) ls)

@@ -19,3 +19,6 @@ pub mod Filled
 pub mod In
 pub mod Fours
 pub mod Decimal
+pub mod Rewritten
+pub mod Joined
+pub mod Back

@@ -97,12 +97,12 @@ module _ (t : List ℕ) (at : ℕ) where
       lines-first bs (omega (arith, length-drop at t)) ∙ rw (e, d)
 
 -- a line in form, or not
-line-read : (form : List Piece) (at : ℕ) (l : Line) (ns : List ℤ) → cond (l .ended) (read form (l .bytes)) none ≡ some ns →
+pub line-read : (form : List Piece) (at : ℕ) (l : Line) (ns : List ℤ) → cond (l .ended) (read form (l .bytes)) none ≡ some ns →
     read-line form at l ≡ accept ns
 unfolding read-line
 line-read form at l ns e = rw (e, read-line)
 
-line-unread : (form : List Piece) (at : ℕ) (l : Line) → cond (l .ended) (read form (l .bytes)) none ≡ none →
+pub line-unread : (form : List Piece) (at : ℕ) (l : Line) → cond (l .ended) (read form (l .bytes)) none ≡ none →
     read-line form at l ≡ refuse 13 (at ∷ [])
 unfolding read-line
 line-unread form at l e = rw (e, read-line)

@@ -1,3 +1,10 @@
+use mathlib.Core.Path.{refl, ap, subst, sym}
+use mathlib.Core.List.{List}
+use Rattle.paper.specs.Rows.{Row}
+use Rattle.paper.specs.Build.{Standing, walk-in}
+use Rattle.trees.proofs.Tree.{Tree}
+use Rattle.build.specs.Steps.{standing, Stands}
+use Rattle.build.proofs.Walked.{walk-tree, marked}
 use borrow.Author.Needs.{needs}
 use Rattle.build.proofs.strings.add_string.Statement.{statement}
 use Rattle.build.proofs.strings.add_string.Tie as tie
@@ -24,11 +31,24 @@ same-length c = search needs
 
 -- src/strings.rt:113:9
 returns : tie.Need-returns
-returns c = ?
+returns c = rw (c .enum-told .given .1) at (c .before .before .before .walk .ensures)
+
+-- where the walk ended
+walked : (c : tie.After-known-told) → let s = c .before .before .before .before .before .before .before in
+    Stands (c .before .before .before .before .walk .last .0) (c .before .step .given .0 .0)
+      (c .before .step .given .0 .1 .0 .0) (c .before .step .given .0 .1 .1 .0)
+      (walk-in (standing (s .args .buf .now) (s .args .n) 0) (s .args .string .now))
+walked c = rw (c .before .step .given .1) at (c .before .before .before .before .walk .ensures)
 
 -- src/strings.rt:115:5
 mark-requires : tie.Need-mark-requires
-mark-requires c κs = ?
+mark-requires c κs =
+    let s = c .before .before .before .before .before .before .before .before in
+    let w = standing (s .args .buf .now) (s .args .n) 0 in
+    let e = walked (c .before) in
+    (e .laid,
+     subst (λ (v : Standing). Tree (v .rows)) (sym (e .is)) (walk-tree w (s .args .string .now) refl (s .pre .1)),
+     e .leads)
 
 -- src/strings.rt:107:1
 same-length-2 : tie.Need-same-length-2
@@ -36,7 +56,11 @@ same-length-2 c = search needs
 
 -- src/strings.rt:107:1
 returns-2 : tie.Need-returns-2
-returns-2 c = ?
+returns-2 c =
+    let d = c .before .before .before in
+    let s = d .before .before .before .before .before .before .before in
+    marked (s .args .buf .now) _ _ (s .args .n) _ _ _ (s .args .production .0) (s .args .string .now) (walked d)
+      (c .before .mark .ensures)
 
 pub add-string-spec : {M : Type 1} → statement M
 add-string-spec =

@@ -1,3 +1,10 @@
+use mathlib.Core.Path.{_≡_, refl, ap, sym, _∙_}
+use Prim.Native.Nat.{ℕ, _+_, _-_, _≤_}
+use native.Mathlib.Omega.{arith}
+use lib.ListN.{length, getD, drop}
+use lib.Seq.{length-take-le}
+use borrow.Author.Needs.{needs}
+use Rattle.build.proofs.Listed.{Listing, lists-all, listed, len-fits, lists-full, lists-next}
 use Rattle.build.proofs.strings.add_strings.Statement.{statement}
 use Rattle.build.proofs.strings.add_strings.Tie as tie
 use Rattle.build.proofs.strings.add_strings.Reads as reads
@@ -8,94 +15,142 @@ use Rattle.build.proofs.strings.larger.Reads as larger-reads
 use Rattle.build.proofs.strings.next_code.Reads as next-code-reads
 
 abbrev Inv-loop : tie.InvT-loop
-Inv-loop buf₀ production tokens lengths rest₀ n₀ code₀ k₀ i₀ buf rest n code k i = ?
+Inv-loop buf₀ production tokens lengths rest₀ n₀ code₀ k₀ i₀ buf rest n code k i =
+    (length buf ≡ length buf₀) × Listing (production .0) tokens lengths buf rest n code k i
 
 abbrev μ-loop : tie.MeasureT-loop
-μ-loop buf₀ production tokens lengths rest₀ n₀ code₀ k₀ i₀ buf rest n code k i = ?
+μ-loop buf₀ production tokens lengths rest₀ n₀ code₀ k₀ i₀ buf rest n code k i = length lengths - i
 
 -- src/strings.rt:160:9
 first-code-requires : tie.Need-first-code-requires Inv-loop μ-loop
-first-code-requires c κs = ?
+first-code-requires c κs = tt
 
 -- src/strings.rt:163:5
 loop-holds : tie.Need-loop-holds Inv-loop μ-loop
-loop-holds c = ?
+loop-holds c =
+    let s = c .before .before .before in
+    let a = s .args in
+    (refl, lists-all (a .production .0) (a .tokens .now) (a .lengths .now) (a .buf .now) _ (s .pre .0) (s .pre .1)
+      (c .first-code .ensures))
 
 -- src/strings.rt:164:19
 mul-len : tie.Need-mul-len Inv-loop μ-loop
-mul-len c = ?
+mul-len c = search needs
 
 -- src/strings.rt:164:19
 shared-slice-read-len : tie.Need-shared-slice-read-len Inv-loop μ-loop
-shared-slice-read-len c = ?
+shared-slice-read-len c = omega arith
+
+-- the next string is within the rest
+fits : (c : tie.After-shared-slice-known3 Inv-loop μ-loop) → let l = c .before .before in
+    getD (l .before .before .before .before .args .lengths .now) (l .loop .i) 0 ≤ length (l .loop .rest .now)
+fits c =
+    let l = c .before .before in
+    let a = l .before .before .before .before .args in
+    len-fits (a .production .0) (a .tokens .now) (a .lengths .now) (l .loop .buf) (l .loop .rest .now) (l .loop .n)
+      (l .loop .code) (l .loop .k) (l .loop .i) (l .loop .inv .1) (omega arith)
 
 -- src/strings.rt:165:39
 slice-aggregate-add-string : tie.Need-slice-aggregate-add-string Inv-loop μ-loop
-slice-aggregate-add-string c = ?
+slice-aggregate-add-string c = sym (length-take-le _ (c .before .before .before .before .loop .rest .now) (fits (c .before .before)))
 
 -- src/strings.rt:165:13
 add-string-requires : tie.Need-add-string-requires Inv-loop μ-loop
-add-string-requires c κs = ?
+add-string-requires c κs =
+    let i = c .before .before .before .before .loop .inv .1 in
+    (i .laid, i .tree)
 
 -- src/strings.rt:166:24
 enum-known-step : tie.Need-enum-known-step Inv-loop μ-loop
-enum-known-step c = ?
+enum-known-step c = search needs
 
 -- src/strings.rt:167:13
 enum-told : tie.Need-enum-told Inv-loop μ-loop
-enum-told c = ?
+enum-told c = search needs
 
 -- src/strings.rt:167:13
 same-length : tie.Need-same-length Inv-loop μ-loop
-same-length c = ?
+same-length c =
+    let e = c .before .before .before in
+    e .add-string .kept .0 ∙ e .before .before .before .before .before .loop .inv .0
 
 -- src/strings.rt:167:13
 returns : tie.Need-returns Inv-loop μ-loop
-returns c = ?
+returns c =
+    let e = c .before .before .before in
+    let l = e .before .before .before .before .before in
+    let a = l .before .before .before .before .args in
+    lists-full (a .production .0) (a .tokens .now) (a .lengths .now) (l .loop .buf) (l .loop .rest .now) (l .loop .n)
+      (l .loop .code) (l .loop .k) (l .loop .i) (l .loop .inv .1) (omega arith)
+      (rw (c .enum-told .given .1) at (e .add-string .ensures))
 
 -- src/strings.rt:170:9
 next-code-requires : tie.Need-next-code-requires Inv-loop μ-loop
-next-code-requires c κs = ?
+next-code-requires c κs =
+    let l = c .before .before .before .before .before .before .before .before .before in
+    l .loop .inv .1 .small
 
 -- src/strings.rt:171:9
 larger-requires : tie.Need-larger-requires Inv-loop μ-loop
-larger-requires c κs = ?
+larger-requires c κs = tt
 
 -- src/strings.rt:172:16
 mul-rest : tie.Need-mul-rest Inv-loop μ-loop
-mul-rest c = ?
+mul-rest c =
+    let l = c .before .before .before .before .before .before .before .before .before .before .before in
+    let h = fits (c .before .before .before .before .before .before .before .before .before) in
+    let k = l .loop .inv .1 .less in
+    search needs
 
 -- src/strings.rt:172:16
 sub-rest : tie.Need-sub-rest Inv-loop μ-loop
-sub-rest c = ?
+sub-rest c = fits (c .before .before .before .before .before .before .before .before .before)
 
 -- src/strings.rt:172:16
 part-rest-start : tie.Need-part-rest-start Inv-loop μ-loop
-part-rest-start c = ?
+part-rest-start c =
+    let h = fits (c .before .before .before .before .before .before .before .before .before) in
+    search needs
 
 -- src/strings.rt:172:16
 part-rest-end : tie.Need-part-rest-end Inv-loop μ-loop
-part-rest-end c = ?
+part-rest-end c =
+    let h = fits (c .before .before .before .before .before .before .before .before .before) in
+    search needs
 
 -- src/strings.rt:173:9
 add-i : tie.Need-add-i Inv-loop μ-loop
-add-i c = ?
+add-i c = omega arith
 
 -- src/strings.rt:163:5
 loop-less : tie.Need-loop-less Inv-loop μ-loop
-loop-less c = ?
+loop-less c = omega arith
 
 -- src/strings.rt:163:5
 loop-again : tie.Need-loop-again Inv-loop μ-loop
-loop-again c = ?
+loop-again c =
+    let r = c .before in
+    let e = r .before .before .before .before .before .before in
+    let l = e .before .before .before .before .before in
+    let a = l .before .before .before .before .args in
+    let len = getD (a .lengths .now) (l .loop .i) 0 in
+    (e .add-string .kept .0 ∙ l .loop .inv .0,
+     rw (r .larger .ensures)
+       (lists-next (a .production .0) (a .tokens .now) (a .lengths .now) (l .loop .buf) (l .loop .rest .now) (l .loop .n)
+         (l .loop .code) (l .loop .k) (l .loop .i) (l .loop .inv .1) (omega arith) _ _ _ _
+         (rw (r .before .before .before .step .given .1) at (e .add-string .ensures)) (r .before .next-code .ensures)))
 
 -- src/strings.rt:148:1
 same-length-2 : tie.Need-same-length-2 Inv-loop μ-loop
-same-length-2 c = ?
+same-length-2 c = c .before .loop .inv .0
 
 -- src/strings.rt:148:1
 returns-2 : tie.Need-returns-2 Inv-loop μ-loop
-returns-2 c = ?
+returns-2 c =
+    let l = c .before in
+    let a = l .before .before .before .before .args in
+    listed (a .production .0) (a .tokens .now) (a .lengths .now) (l .loop .buf) (l .loop .rest .now) (l .loop .n)
+      (l .loop .code) (l .loop .k) (l .loop .i) (l .loop .inv .1) (c .loop-test .left)
 
 pub add-strings-spec : {M : Type 1} → statement M
 add-strings-spec =

@@ -16,11 +16,15 @@ add-result c = search needs
 
 -- src/strings.rt:135:9
 returns : tie.Need-returns
-returns c = ?
+returns c =
+    let s = c .before .before .before in
+    recodes-root (s .args .code) (s .args .state .0) (s .args .production .0) (omega arith) (c .before .if1 .taken)
 
 -- src/strings.rt:130:1
 returns-2 : tie.Need-returns-2
-returns-2 c = ?
+returns-2 c =
+    let s = c .before .before in
+    recodes-none (s .args .code) (s .args .state .0) (s .args .production .0) (s .pre) (c .if1 .left)
 
 pub next-code-spec : {M : Type 1} → statement M
 next-code-spec = tie.close (tie.spec cast-result add-result returns returns-2)
