@@ -4,3 +4,4 @@ pub mod Walked
 pub mod Codes
 pub mod Checked
 pub mod Listed
+pub mod Answering

@@ -22,23 +22,24 @@ pub fn compared(bytes: &[u8], place: usize, making: Making, out: &[i32]) -> Outc
         } => {
             let next = number::expect(bytes, place, 0);
             let next = number::expect_signed(bytes, next, prod0);
-            let next = number::expect(bytes, next, k);
-            let next = number::expect(bytes, next, states);
-            let next = number::expect(bytes, next, rows);
+            let counts = [k, states, rows];
+            let next = number::expect_each(bytes, next, &counts);
             Outcome {
                 number: 0,
                 right: are_rows(bytes, next, numbers_of(rows), out),
             }
         }
-        Making::Refused(refusal) => {
-            let number = refusal.number();
-            let next = number::expect(bytes, place, number);
-            let next = expect_details(bytes, next, refusal);
-            Outcome {
-                number,
-                right: are_rows(bytes, next, 0, out),
-            }
-        }
+        Making::Refused(refusal) => refused(bytes, place, refusal, out),
+    }
+}
+
+fn refused(bytes: &[u8], place: usize, refusal: Refusal, out: &[i32]) -> Outcome {
+    let number = refusal.number();
+    let next = number::expect(bytes, place, number);
+    let next = expect_details(bytes, next, refusal);
+    Outcome {
+        number,
+        right: are_rows(bytes, next, 0, out),
     }
 }
 
@@ -60,8 +61,8 @@ fn are_rows(bytes: &[u8], place: usize, n: usize, out: &[i32]) -> bool {
 fn expect_details(bytes: &[u8], place: usize, refusal: Refusal) -> usize {
     match refusal {
         Refusal::Clash(first, second) => {
-            let next = number::expect(bytes, place, first.0 as usize);
-            number::expect(bytes, next, second.0 as usize)
+            let pair = [first.0 as usize, second.0 as usize];
+            number::expect_each(bytes, place, &pair)
         }
         _ => place,
     }

@@ -42,6 +42,17 @@ pub fn expect(bytes: &[u8], place: usize, n: usize) -> usize {
     }
 }
 
+// The same of several numbers, one after the other.
+pub fn expect_each(bytes: &[u8], place: usize, ns: &[usize]) -> usize {
+    let mut next = place;
+    let mut i = 0;
+    while i < ns.len() {
+        next = expect(bytes, next, ns[i]);
+        i += 1;
+    }
+    next
+}
+
 // The same of a signed number.
 pub fn expect_signed(bytes: &[u8], place: usize, x: i32) -> usize {
     let read = unsigned(bytes, place);

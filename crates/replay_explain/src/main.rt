@@ -56,8 +56,8 @@ fn both(bytes: &[u8], place: usize, prod0: i32, k: usize, rows: &[i32], tokens: 
     let matched = explain::matched(prod0, k, rows, tokens);
     match matched {
         Explanation::Matched(count) => {
-            let next = number::expect(bytes, place, 0);
-            let next = number::expect(bytes, next, count);
+            let numbers = [0, count];
+            let next = number::expect_each(bytes, place, &numbers);
             Outcome {
                 number: 0,
                 right: is_stretch(bytes, next, rows, part),

@@ -60,20 +60,17 @@ fn compared(bytes: &[u8], place: usize, prediction: Prediction) -> Outcome {
             production,
             entered,
         } => {
-            let next = number::expect(bytes, place, 0);
-            let next = number::expect(bytes, next, production.0 as usize);
-            let next = number::expect(bytes, next, entered);
+            let numbers = [0, production.0 as usize, entered];
             Outcome {
                 number: 0,
-                right: next == bytes.len(),
+                right: number::expect_each(bytes, place, &numbers) == bytes.len(),
             }
         }
         Prediction::Refused(refusal) => {
             let number = refusal.number();
-            let next = number::expect(bytes, place, number);
             Outcome {
                 number,
-                right: next == bytes.len(),
+                right: number::expect(bytes, place, number) == bytes.len(),
             }
         }
     }

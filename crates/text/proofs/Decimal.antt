@@ -43,7 +43,7 @@ counted [] bs h e = e
 counted (d ∷ ds) bs h e = rw (h .0) (ap suc (counted ds bs (h .1) e))
 
 -- a number's own digits
-are-digits : (f n : ℕ) → Digits (digits f n)
+pub are-digits : (f n : ℕ) → Digits (digits f n)
 unfolding digits
 are-digits zero n = tt
 are-digits (suc f) n = by-test (ltb n 10)
@@ -62,7 +62,7 @@ own-number (suc f) n h = by-test (ltb n 10)
       rw e (num-last 0 (digits f (n / 10)) (48 + n % 10) ∙ rw (own-number f (n / 10) k) (omega (arith, div-add-mod' n 10))))
 
 -- a number's first digit is no 0 unless it is 0
-own-first : (f n : ℕ) → 0 < n → n < 10 ^ f → (0 < length (digits f n)) × (getD (digits f n) 0 0 ≡ 48 → ⊥)
+pub own-first : (f n : ℕ) → 0 < n → n < 10 ^ f → (0 < length (digits f n)) × (getD (digits f n) 0 0 ≡ 48 → ⊥)
 own-first zero n h k = absurd (omega arith)
 own-first (suc f) n h k = by-test (ltb n 10)
     (λ e. let g = ltb-true n 10 e in rw (digits-less f n g) (omega arith, λ q. omega arith))

@@ -22,3 +22,4 @@ pub mod Decimal
 pub mod Rewritten
 pub mod Joined
 pub mod Back
+pub mod Reread

@@ -1,3 +1,12 @@
+use mathlib.Core.Path.{sym, _∙_}
+use native.Mathlib.Omega.{arith}
+use lib.ListN.{length}
+use Rattle.paper.specs.Rows.{natural}
+use Rattle.paper.specs.Build.{build-range}
+use Rattle.rows.specs.Places.{Reads}
+use Rattle.rows.proofs.Signed.{same, read-passed}
+use Rattle.build.proofs.Checked.{production-in, sane}
+use Rattle.build.proofs.Answering.{refused-lengths, refused-range, accepted}
 use borrow.Author.Needs.{needs}
 use Rattle.build.proofs.build.Statement.{statement}
 use Rattle.build.proofs.build.Tie as tie

@@ -1,0 +1,92 @@
+// The calls for Rust and C: numbers and slices in, the refusal's number out (0: accepted), values in `answer`.
+ghost use Rattle.predict.specs.Seen.{Sound};
+use paper::{Explanation, Mode, Prediction, Production, Refusal};
+
+// Mode 0 is archive; any other number is intake.
+fn mode_of(mode: u32) -> Mode {
+    if mode == 0 { Mode::Archive } else { Mode::Intake }
+}
+
+fn wide(q: Production) -> u64 {
+    q.0 as u64
+}
+
+// A refusal's number, with the detail of 8 and 13 in `answer`.
+fn refusal(f: Refusal, answer: &mut [u64; 4]) -> usize {
+    match f {
+        Refusal::Clash(p, q) => {
+            answer[0] = wide(p);
+            answer[1] = wide(q);
+        }
+        Refusal::Text(at) => {
+            answer[0] = at as u64;
+        }
+        _ => {}
+    }
+    f.number()
+}
+
+// Predict: on acceptance the production and the count of rows entered.
+#[no_mangle]
+pub extern "C" fn lookahead_predict(
+    mode: u32,
+    prod0: i32,
+    k: usize,
+    rows: &[i32],
+    stream: usize,
+    tokens: &[u16],
+    answer: &mut [u64; 4],
+) -> usize {
+    let said = predict::predict(mode_of(mode), prod0, k, rows, stream, tokens);
+    predicted(said, answer)
+}
+
+fn predicted(said: Prediction, answer: &mut [u64; 4]) -> usize {
+    match said {
+        Prediction::Predicted { production, entered } => {
+            answer[0] = wide(production);
+            answer[1] = entered as u64;
+            0
+        }
+        Prediction::Refused(f) => refusal(f, answer),
+    }
+}
+
+// Predict for a table that passed 1 to 3, for callers who predict often.
+#[no_mangle]
+pub extern "C" fn lookahead_predict_checked(
+    mode: u32,
+    prod0: i32,
+    k: usize,
+    rows: &[i32],
+    stream: usize,
+    tokens: &[u16],
+    answer: &mut [u64; 4],
+) -> usize
+    requires { ⌜ Sound prod0 k (now rows) ⌝ }
+{
+    let said = predict::predict_checked(mode_of(mode), prod0, k, rows, stream, tokens);
+    predicted(said, answer)
+}
+
+// Explain: on acceptance the count of matched tokens; always where the rows that leave the stopped state lie.
+#[no_mangle]
+pub extern "C" fn lookahead_explain(
+    prod0: i32,
+    k: usize,
+    rows: &[i32],
+    tokens: &[u16],
+    answer: &mut [u64; 4],
+) -> usize {
+    let part = explain::place(prod0, k, rows, tokens);
+    answer[2] = part.start as u64;
+    answer[3] = part.count as u64;
+    let said = explain::matched(prod0, k, rows, tokens);
+    match said {
+        Explanation::Matched(n) => {
+            answer[0] = n as u64;
+            0
+        }
+        Explanation::Refused(f) => refusal(f, answer),
+    }
+}
