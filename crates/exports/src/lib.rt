@@ -90,3 +90,42 @@ pub extern "C" fn lookahead_explain(
         Explanation::Refused(f) => refusal(f, answer),
     }
 }
+
+// One window of a table that passed 1 to 3: the production, or 65,536 and the refusal's number.
+fn window(mode: Mode, prod0: i32, k: usize, rows: &[i32], tokens: &[u16]) -> u32
+    requires { ⌜ Sound prod0 k (now rows) ⌝ }
+{
+    let said = predict::predict_checked(mode, prod0, k, rows, k, tokens);
+    match said {
+        Prediction::Predicted {
+            production,
+            entered: _,
+        } => production.0 as u32,
+        Prediction::Refused(_) => 65536,
+    }
+}
+
+// Windows of k tokens, one after the other, over a table that passed 1 to 3: to measure the walk alone.
+#[no_mangle]
+pub extern "C" fn lookahead_windows(
+    mode: u32,
+    prod0: i32,
+    k: usize,
+    rows: &[i32],
+    tokens: &[u16],
+    answers: &mut [u32],
+)
+    requires { ⌜ Sound prod0 k (now rows) ⌝ }
+{
+    let mode = mode_of(mode);
+    let mut rest = tokens;
+    let mut i = 0;
+    while i < answers.len() {
+        if rest.len() < k {
+            return;
+        }
+        answers[i] = window(mode, prod0, k, rows, &rest[..k]);
+        rest = &rest[k..];
+        i += 1;
+    }
+}

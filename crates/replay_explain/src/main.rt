@@ -1,4 +1,5 @@
-// Replays the cases of explain: each is asked of the two proved calls, and their answers are compared with the list's.
+// Replays the cases of explain: each is asked of the proved calls, and their answers are compared with the
+// list's.
 use cases::number;
 use cases::slice;
 use cases::tally;
@@ -40,7 +41,7 @@ fn asked(bytes: &[u8], rows: &mut [i32], tokens: &mut [u16]) -> Outcome {
     let behind = slice::numbers(bytes, n.next, n.value, rows);
     let m = number::unsigned(bytes, behind);
     let behind = slice::tokens(bytes, m.next, m.value, tokens);
-    both(
+    called(
         bytes,
         behind,
         number::signed(prod0.value),
@@ -50,35 +51,34 @@ fn asked(bytes: &[u8], rows: &mut [i32], tokens: &mut [u16]) -> Outcome {
     )
 }
 
-// Both calls on one table.
-fn both(bytes: &[u8], place: usize, prod0: i32, k: usize, rows: &[i32], tokens: &[u16]) -> Outcome {
+// The count, the place of the stretch and the stretch itself, of one table.
+fn called(
+    bytes: &[u8],
+    place: usize,
+    prod0: i32,
+    k: usize,
+    rows: &[i32],
+    tokens: &[u16],
+) -> Outcome {
     let part = explain::stretch(prod0, k, rows, tokens);
+    let lies = explain::place(prod0, k, rows, tokens);
+    let is_part = part.len() == lies.count && slice::is_part(part, rows, lies.start);
     let matched = explain::matched(prod0, k, rows, tokens);
     match matched {
         Explanation::Matched(count) => {
-            let numbers = [0, count];
-            let next = number::expect_each(bytes, place, &numbers);
+            let numbers = [0, count, lies.start, lies.count];
             Outcome {
                 number: 0,
-                right: is_stretch(bytes, next, rows, part),
+                right: is_part && number::expect_each(bytes, place, &numbers) == bytes.len(),
             }
         }
         Explanation::Refused(refusal) => {
             let number = refusal.number();
-            let next = number::expect(bytes, place, number);
+            let numbers = [number, lies.start, lies.count];
             Outcome {
                 number,
-                right: is_stretch(bytes, next, rows, part),
+                right: is_part && number::expect_each(bytes, place, &numbers) == bytes.len(),
             }
         }
     }
-}
-
-// Whether a part is the stretch that the list tells at a place: as long, and of the numbers that stand there.
-fn is_stretch(bytes: &[u8], place: usize, rows: &[i32], part: &[i32]) -> bool {
-    let start = number::unsigned(bytes, place);
-    if number::expect(bytes, start.next, part.len()) != bytes.len() {
-        return false;
-    }
-    slice::is_part(part, rows, start.value)
 }

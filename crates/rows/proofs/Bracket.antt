@@ -6,14 +6,14 @@ use mathlib.Core.List.{List}
 use Prim.Native.Nat.{ℕ, zero, suc, _+_, _-_, _*_, _/_, _≤_, _<_}
 use native.Mathlib.Omega.{arith}
 use native.Mathlib.Numerals.{add-one}
-use borrow.Author.Tests.{ltb-true}
+use borrow.Author.Tests.{ltb-true, ltb-false}
 use lib.Dec.{ltb}
 use lib.ListN.{length}
 use lib.IntN.{ℤ}
 use Rattle.paper.specs.Checks.{row-fits, rising}
 use Rattle.rows.specs.Places.{row-at, rest, key}
-use Rattle.rows.specs.Search.{Passed, Lower}
-use Rattle.rows.proofs.Rest.{both, by-place, every-at}
+use Rattle.rows.specs.Search.{Passed, Bracket, Lower, Below, Scanned}
+use Rattle.rows.proofs.Rest.{by-test, both, by-place, every-at}
 use Rattle.rows.proofs.Fits.{Fit, fit}
 use Rattle.rows.proofs.Keys.{compared, rising-key, rising-end}
 
@@ -46,19 +46,17 @@ module _ {ns : List ℤ} (p : Passed ns) where
       let e : i + suc (j - i - 1) ≡ j = omega arith in
       rw e at (keys-on (j - i - 1) i (omega arith))
 
--- all rows before low are below x, and all from high on are at least x
-pub record Bracket (ns : List ℤ) (x low high : ℕ) : Type 0 where
-  pub ordered : low ≤ high
-  pub within : high ≤ length ns / 4
-  pub below : (j : ℕ) → j < low → key (row-at ns j) < x
-  pub above : (j : ℕ) → high ≤ j → j < length ns / 4 → x ≤ key (row-at ns j)
-
-pub opened : (ns : List ℤ) (x n : ℕ) → n ≡ length ns / 4 → Bracket ns x 0 n
-opened ns x n e = record {
+-- nothing is known yet of the rows after the first, whose last is below x
+pub opened : {ns : List ℤ} (p : Passed ns) (x m : ℕ) → m < length ns / 4 → key (row-at ns m) < x
+    → Bracket ns x (m + 1) (length ns / 4)
+opened {ns} p x m l h = record {
   ordered = omega arith;
   within = omega arith;
-  below = λ j l. absurd (omega arith);
-  above = λ j l m. absurd (omega arith);
+  below = λ j k. compared j m
+      (λ q. omega (arith, keys-rise p j m q l))
+      (λ q. omega (arith, ap (λ (i : ℕ). key (row-at ns i)) q))
+      (λ q. absurd (omega arith));
+  above = λ j k n. absurd (omega arith);
 }
 
 module _ {ns : List ℤ} {x low high : ℕ} (p : Passed ns) (b : Bracket ns x low high) (m : ℕ) (h : m < high) where
@@ -94,3 +92,33 @@ met b h = record {
 -- a row of a slice that passed is within its bounds
 pub fit-at : {ns : List ℤ} (p : Passed ns) (i : ℕ) → i < length ns / 4 → Fit (row-at ns i)
 fit-at {ns} p i l = fit (row-at ns i) (every-at row-fits ns i (p .fits) (omega arith))
+
+-- no row passed yet, and one more
+pub none-passed : (ns : List ℤ) (x : ℕ) → Below ns x 0
+none-passed ns x = record { row = λ j l. absurd (omega arith) }
+
+pub one-passed : {ns : List ℤ} {x i : ℕ} → Below ns x i → key (row-at ns i) < x → Below ns x (i + 1)
+one-passed {ns} {x} {i} b h = record {
+  row = λ j l. compared j i
+      (λ q. b .row j q)
+      (λ q. omega (arith, ap (λ (k : ℕ). key (row-at ns k)) q))
+      (λ q. absurd (omega arith));
+}
+
+-- the first of all rows, where the search went as far as it had to
+pub scanned : {ns : List ℤ} (p : Passed ns) (end x i : ℕ) → Scanned ns end x i → end ≤ length ns / 4
+    → (i ≡ end → end ≡ length ns / 4) → Lower ns x i
+scanned {ns} p end x i s w f = record {
+  within = omega (arith, s .within);
+  below = s .below .row;
+  above = λ j l n. by-test (ltb i end)
+      (λ e. up j l n (s .here (ltb-true i end e)))
+      (λ e. let k : end ≤ i = ltb-false i end e in
+        let q : i ≡ end = omega (arith, s .within) in absurd (omega (arith, f q)));
+}
+  where
+    up : (j : ℕ) → i ≤ j → j < length ns / 4 → x ≤ key (row-at ns i) → x ≤ key (row-at ns j)
+    up j l n h = compared i j
+        (λ d. omega (arith, keys-rise p i j d n))
+        (λ d. omega (arith, ap (λ (k : ℕ). key (row-at ns k)) d))
+        (λ d. absurd (omega arith))

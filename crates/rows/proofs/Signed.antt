@@ -99,3 +99,19 @@ read-passed f x r h s = record { is = s .is ∙ ap f (toZ-ofZ {w = w32} h); smal
 pub read-at : (f : ℤ → ℕ) (ns : List ℤ) (j r : ℕ) → mag (getD ns j (pos 0)) < 2 ^ 31
     → Reads (f (toZ w32 (ofZ w32 (getD ns j (pos 0))))) r → Reads (f (getD ns j (pos 0))) r
 read-at f ns j r h s = read-passed f (getD ns j (pos 0)) r (record { sfits = h }) s
+
+-- a number that is within its bounds is not below 0: what its cast asks, and what it gives
+not-below : (z : ℤ) → natural z ≤ 65535 → SFits w32 z → T (nonNeg z) × Fits w64 (natAbs z)
+not-below (pos n) h f = (tt, record { fits = omega (arith, f .sfits) })
+not-below (negsuc n) h f = absurd (omega arith)
+
+cast-of : (z : ℤ) → natural z ≤ 65535 → natAbs z ≡ natural z
+cast-of (pos n) h = refl
+cast-of (negsuc n) h = absurd (omega arith)
+
+pub plain-cast : (z : ℤ) → natural z ≤ 65535 → mag z < 2 ^ 31
+    → T (nonNeg (toZ w32 (ofZ w32 z))) × Fits w64 (natAbs (toZ w32 (ofZ w32 z)))
+plain-cast z h m = rw (back z m) (not-below z h (record { sfits = m }))
+
+pub plain-read : (z : ℤ) → natural z ≤ 65535 → mag z < 2 ^ 31 → natAbs (toZ w32 (ofZ w32 z)) ≡ natural z
+plain-read z h m = rw (back z m) (cast-of z h)

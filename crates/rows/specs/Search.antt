@@ -17,6 +17,23 @@ pub record Passed (ns : List ℤ) : Type 0 where
   pub fits : every row-fits (rows-in ns) ≡ true
   pub rises : rising (rows-in ns) ≡ true
 
+-- All rows before low are below x, and all from high on are at least x.
+pub record Bracket (ns : List ℤ) (x low high : ℕ) : Type 0 where
+  pub ordered : low ≤ high
+  pub within : high ≤ length ns / 4
+  pub below : (j : ℕ) → j < low → key (row-at ns j) < x
+  pub above : (j : ℕ) → high ≤ j → j < length ns / 4 → x ≤ key (row-at ns j)
+
+-- All rows before i are below x.
+pub record Below (ns : List ℤ) (x i : ℕ) : Type 0 where
+  pub row : (j : ℕ) → j < i → key (row-at ns j) < x
+
+-- i is the first row before end whose key is at least x, or end.
+pub record Scanned (ns : List ℤ) (end x i : ℕ) : Type 0 where
+  pub within : i ≤ end
+  pub below : Below ns x i
+  pub here : i < end → x ≤ key (row-at ns i)
+
 -- i is the first row whose key is at least x.
 pub record Lower (ns : List ℤ) (x i : ℕ) : Type 0 where
   pub within : i ≤ length ns / 4

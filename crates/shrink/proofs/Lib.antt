@@ -1,1 +1,12 @@
--- (see the files named below)
+pub mod Begins
+pub mod Productions
+pub mod Alike
+pub mod Entered
+pub mod Searched
+pub mod Settling
+pub mod Pass
+pub mod Marking
+pub mod Counting
+pub mod Writing
+pub mod Emitting
+pub mod Parts

@@ -18,11 +18,11 @@ use Rattle.text.proofs.Kept.{production-kept, numbers-kept}
 use Rattle.text.proofs.Out.{out-text, in-range}
 use Rattle.text.proofs.Joined.{Read-from, text-back}
 
-never : {P A : Type 0} {n : ℕ} {d : List ℕ} {a : A} → refuse n d ≡ accept a → P
+pub never : {P A : Type 0} {n : ℕ} {d : List ℕ} {a : A} → refuse n d ≡ accept a → P
 never e = let z : _≡_ {A = ℕ} 0 1 = cc in absurd (omega arith)
 
 -- a check that did not refuse
-passes : {A : Type 0} (b : Bool) (n : ℕ) (r : Ruling A) (a : A) → cond b (refuse n []) r ≡ accept a → (b ≡ false) × (r ≡ accept a)
+pub passes : {A : Type 0} (b : Bool) (n : ℕ) (r : Ruling A) (a : A) → cond b (refuse n []) r ≡ accept a → (b ≡ false) × (r ≡ accept a)
 passes true n r a e = never e
 passes false n r a e = (refl, e)
 

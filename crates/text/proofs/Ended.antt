@@ -54,13 +54,10 @@ module _ (t : List ℕ) (at e : ℕ) (h : e ≡ line-end t at) where
   unfolding row-from
   row-ended k r q = q ∙ rw (part-front, ← h, lt-ltb e (length t) k)
 
-module _ (t : List ℕ) (e : ℕ) (h : e ≡ line-end t 0) where
-  pub head-unended : length t ≤ e → head-line.Bad ≡ head-from t
+  pub head-unended : length t ≤ e → head-line.Bad ≡ head-from t at
   unfolding head-from
   head-unended k = rw (← h, le-ltb e (length t) k)
 
-  pub head-ended : e < length t → (r : HeadLine) → r ≡ head-of (take e t) (e + 1) → r ≡ head-from t
+  pub head-ended : e < length t → (r : HeadLine) → r ≡ head-of (take (e - at) (drop at t)) (e + 1) → r ≡ head-from t at
   unfolding head-from
-  head-ended k r q =
-      let z : e - 0 ≡ e = omega arith in
-      q ∙ rw (← h, lt-ltb e (length t) k) (ap (λ (x : List ℕ). head-of x (e + 1)) (rw z at (part-front t 0 e h)))
+  head-ended k r q = q ∙ rw (part-front, ← h, lt-ltb e (length t) k)

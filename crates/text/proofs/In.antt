@@ -49,10 +49,10 @@ module _ (t : List ℕ) (room : ℕ) where
     unfolding text-in little-room
     in-lines = rw (le-ltb room 16384 wide)
 
-    pub in-head : head-from t ≡ head-line.Bad → text-in t room ≡ refuse 13 (0 ∷ [])
+    pub in-head : head-from t 0 ≡ head-line.Bad → text-in t room ≡ refuse 13 (0 ∷ [])
     in-head e = in-lines ∙ rw (head-bad t e)
 
-    module _ (p k n : ℕ) (head : head-from t ≡ head-line.Head p k n) where
+    module _ (p k n : ℕ) (head : head-from t 0 ≡ head-line.Head p k n) where
       abbrev of : List ℤ → Table
       of ns = table (signed (uncoded p)) k ns
 

@@ -24,7 +24,7 @@ production-kept (negsuc zero) h = refl
 production-kept (negsuc (suc n)) h = absurd (omega arith)
 
 -- the four numbers of a row
-row-kept : (f t g p : ℤ) →
+pub row-kept : (f t g p : ℤ) →
     Fit (record { from = natural f; terminal = natural t; to = natural g; production = accepting p }) →
     row-numbers (record { from = natural f; terminal = natural t; to = natural g; production = accepting p })
     ≡ f ∷ t ∷ g ∷ p ∷ []

@@ -23,3 +23,4 @@ pub mod Rewritten
 pub mod Joined
 pub mod Back
 pub mod Reread
+pub mod Forth

@@ -138,13 +138,13 @@ no-line [] h = refl
 no-line (b ∷ bs) h = absurd (omega arith)
 
 module _ (t : List ℕ) where
-  head-read : cond (ltb (line-end t 0) (length t)) (read head-form (front t)) none ≡ head-told (head-from t)
+  head-read : cond (ltb (line-end t 0) (length t)) (read head-form (front t)) none ≡ head-told (head-from t 0)
   unfolding head-from
   head-read = by-test (ltb (line-end t 0) (length t))
       (λ e. rw e (sym (head-is-read (front t) (line-end t 0 + 1))))
       (λ e. rw e)
 
-  some-head : (p k n : ℕ) → head-from t ≡ head-line.Head p k n → 0 < length t
+  some-head : (p k n : ℕ) → head-from t 0 ≡ head-line.Head p k n → 0 < length t
   some-head p k n e = omega (arith, head-from-at t p k n e .inside, head-from-at t p k n e .place)
 
   head-here : 0 < length t → read-lines (lines t) ≡ then (read-line head-form 0 (line-at t 0)) (λ h.
@@ -160,13 +160,13 @@ module _ (t : List ℕ) where
       ap read-lines (lines-at t 0 h) ∙ ap of-rows n
 
   -- the table, from its rows
-  pub head-rows : (p k n : ℕ) → head-from t ≡ head-line.Head p k n →
+  pub head-rows : (p k n : ℕ) → head-from t 0 ≡ head-line.Head p k n →
       read-lines (lines t) ≡ then (rows-read t n) (λ ns. accept (table (signed (uncoded p)) k ns))
   head-rows p k n e =
       let q = line-read head-form 0 (line-at t 0) (signed (uncoded p) ∷ pos k ∷ []) (head-read ∙ ap head-told e) in
       head-here (some-head p k n e) ∙ rw (q, head-from-at t p k n e .place)
 
-  pub head-bad : head-from t ≡ head-line.Bad → read-lines (lines t) ≡ refuse 13 (0 ∷ [])
+  pub head-bad : head-from t 0 ≡ head-line.Bad → read-lines (lines t) ≡ refuse 13 (0 ∷ [])
   head-bad e = by-test (ltb 0 (length t))
       (λ h. head-here (ltb-true 0 (length t) h) ∙ rw (line-unread head-form 0 (line-at t 0) (head-read ∙ ap head-told e)))
       (λ h. no-line t (ltb-false 0 (length t) h))

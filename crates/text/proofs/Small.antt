@@ -111,7 +111,7 @@ head-small l next =
 never-head : {P : Type 0} {p k n : ℕ} → head-line.Bad ≡ head-line.Head p k n → P
 never-head e = let z : _≡_ {A = ℕ} 0 1 = cc in absurd (omega arith)
 
-pub head-from-at : (t : List ℕ) (p k n : ℕ) → head-from t ≡ head-line.Head p k n → HeadAt t p k n
+pub head-from-at : (t : List ℕ) (p k n : ℕ) → head-from t 0 ≡ head-line.Head p k n → HeadAt t p k n
 unfolding head-from
 head-from-at t p k n e = by-test (ltb (line-end t 0) (length t))
     (λ h.

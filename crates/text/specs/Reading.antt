@@ -47,6 +47,6 @@ line-end t at = at + length (front (drop at t))
 unfoldable pub row-from : List ℕ → ℕ → RowLine
 row-from t at = cond (ltb (line-end t at) (length t)) (row-of (front (drop at t)) (line-end t at + 1)) row-line.Bad
 
--- The head, whose line begins the text.
-unfoldable pub head-from : List ℕ → HeadLine
-head-from t = cond (ltb (line-end t 0) (length t)) (head-of (front t) (line-end t 0 + 1)) head-line.Bad
+-- The head whose line begins at a place.
+unfoldable pub head-from : List ℕ → ℕ → HeadLine
+head-from t at = cond (ltb (line-end t at) (length t)) (head-of (front (drop at t)) (line-end t at + 1)) head-line.Bad

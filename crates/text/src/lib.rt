@@ -6,6 +6,7 @@ use rows::{checks, numbers};
 
 mod passes;
 mod pieces;
+mod reader;
 mod reading;
 mod writing;
 
@@ -56,7 +57,7 @@ pub fn text_in(text: &[u8], out: &mut [i32]) -> Reading
     if out.len() < 16384 {
         return Reading::Refused(Refusal::Length);
     }
-    let HeadLine::Head(code, k, next) = reading::head_from(text) else {
+    let HeadLine::Head(code, k, next) = reader::head_at(text, 0) else {
         return Reading::Refused(Refusal::Text(0));
     };
     let tally = match passes::scan(text, next) {

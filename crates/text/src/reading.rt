@@ -59,8 +59,7 @@ fn head_of(line: &[u8], next: usize) -> HeadLine
 
 // Where the line from a place on ends: at its LF, or with the text.
 fn line_end(text: &[u8], at: usize) -> usize
-    requires { ⌜ at ≤ length (now text) ⌝ }
-    ensures { λ r. ⌜ (r ≡ line-end (now (text .entry)) at) × (at ≤ r) × (r ≤ length (now (text .entry))) ⌝ }
+    ensures { λ r. ⌜ (r ≡ line-end (now (text .entry)) at) × (at ≤ r) ⌝ }
 {
     let mut end = at;
     while end < text.len() {
@@ -74,7 +73,6 @@ fn line_end(text: &[u8], at: usize) -> usize
 
 // The row whose line begins at a place.
 pub fn row_from(text: &[u8], at: usize) -> RowLine
-    requires { ⌜ at ≤ length (now text) ⌝ }
     ensures { λ r. ⌜ r ≡ row-from (now (text .entry)) at ⌝ }
 {
     let end = line_end(text, at);
@@ -84,13 +82,13 @@ pub fn row_from(text: &[u8], at: usize) -> RowLine
     row_of(&text[at..end], end + 1)
 }
 
-// The head, whose line begins the text.
-pub fn head_from(text: &[u8]) -> HeadLine
-    ensures { λ r. ⌜ r ≡ head-from (now (text .entry)) ⌝ }
+// The head whose line begins at a place.
+pub fn head_from(text: &[u8], at: usize) -> HeadLine
+    ensures { λ r. ⌜ r ≡ head-from (now (text .entry)) at ⌝ }
 {
-    let end = line_end(text, 0);
+    let end = line_end(text, at);
     if text.len() <= end {
         return HeadLine::Bad;
     }
-    head_of(&text[..end], end + 1)
+    head_of(&text[at..end], end + 1)
 }

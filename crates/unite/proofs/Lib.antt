@@ -1,1 +1,4 @@
--- (see the files named below)
+pub mod Meets
+pub mod Rowed
+pub mod Steps
+pub mod Ongoing

@@ -18,7 +18,7 @@ slice-aggregate-add-strings c = search needs
 
 -- src/lib.rt:22:9
 add-strings-requires : tie.Need-add-strings-requires
-add-strings-requires c κs = (laid-none _ (omega arith), c .before .pre .sums)
+add-strings-requires c κs = (laid-none _ (omega arith), c .before .before .before .pre .sums)
 
 -- src/lib.rt:24:40
 enum-told : tie.Need-enum-told

@@ -15,15 +15,15 @@ use Rattle.rows.proofs.numbers.production_of.Reads as production-of-reads
 use Rattle.text.proofs.passes.fill.Reads as fill-reads
 use Rattle.text.proofs.passes.scan.Reads as scan-reads
 use Rattle.text.proofs.ranged.Reads as ranged-reads
-use Rattle.text.proofs.reading.head_from.Reads as head-from-reads
+use Rattle.text.proofs.reader.head_at.Reads as head-at-reads
 
 -- src/lib.rt:57:9
 returns : tie.Need-returns
 returns c = refused Length (in-room _ _ (c .if1 .taken))
 
 -- src/lib.rt:59:41
-head-from-requires : tie.Need-head-from-requires
-head-from-requires c κs = search needs
+head-at-requires : tie.Need-head-at-requires
+head-at-requires c κs = search needs
 
 -- src/lib.rt:59:24
 enum-known-code : tie.Need-enum-known-code
@@ -38,7 +38,7 @@ returns-2 : tie.Need-returns-2
 returns-2 c =
     let h = c .before .before in
     let t = h .before .before .before .args .text .now in
-    refused (Text 0) (in-head t _ (h .before .if1 .left) (sym (h .head-from .ensures) ∙ c .enum-told .given .1))
+    refused (Text 0) (in-head t _ (h .before .if1 .left) (sym (h .head-at .ensures) ∙ c .enum-told .given .1))
 
 -- src/lib.rt:62:23
 scan-requires : tie.Need-scan-requires
@@ -46,7 +46,7 @@ scan-requires c κs =
     let v = c .before in
     let h = v .before .before in
     let t = h .before .before .before .args .text .now in
-    head-from-at t _ _ _ (sym (h .head-from .ensures) ∙ v .code .given .1) .inside
+    head-from-at t _ _ _ (sym (h .head-at .ensures) ∙ v .code .given .1) .inside
 
 -- src/lib.rt:63:20
 enum-known-tally : tie.Need-enum-known-tally
@@ -64,7 +64,7 @@ returns-3 c =
     let h = v .before .before in
     let t = h .before .before .before .args .text .now in
     let wide = h .before .if1 .left in
-    let head = sym (h .head-from .ensures) ∙ v .code .given .1 in
+    let head = sym (h .head-at .ensures) ∙ v .code .given .1 in
     let e = sym (r .scan .ensures) ∙ ap scanned (c .before .at .given .1) in
     refused (Text _) (in-bad t _ wide _ _ _ head _ e)
 
@@ -77,7 +77,7 @@ returns-4 c =
     let h = v .before .before in
     let t = h .before .before .before .args .text .now in
     let wide = h .before .if1 .left in
-    let head = sym (h .head-from .ensures) ∙ v .code .given .1 in
+    let head = sym (h .head-at .ensures) ∙ v .code .given .1 in
     let e = sym (r .scan .ensures) ∙ ap scanned (s .tally .given .1) in
     refused Length (in-many t _ wide _ _ _ head _ e (c .if2 .taken))
 
@@ -94,7 +94,7 @@ returns-5 c =
     let h = v .before .before in
     let t = h .before .before .before .args .text .now in
     let wide = h .before .if1 .left in
-    let head = sym (h .head-from .ensures) ∙ v .code .given .1 in
+    let head = sym (h .head-at .ensures) ∙ v .code .given .1 in
     let e = sym (r .scan .ensures) ∙ ap scanned (s .tally .given .1) in
     let q = c .before in
     let out = sym (q .ranged .ensures) ∙ not-true (q .ranged .result) (c .if3 .taken) in
@@ -109,7 +109,7 @@ returns-6 c =
     let h = v .before .before in
     let t = h .before .before .before .args .text .now in
     let wide = h .before .if1 .left in
-    let head = sym (h .head-from .ensures) ∙ v .code .given .1 in
+    let head = sym (h .head-at .ensures) ∙ v .code .given .1 in
     let e = sym (r .scan .ensures) ∙ ap scanned (s .tally .given .1) in
     let q = c .before .before .before in
     let ranged = sym (q .ranged .ensures) ∙ not-false (q .ranged .result) (c .before .before .if3 .left) in
@@ -125,7 +125,7 @@ fill-requires c κs =
     let h = v .before .before in
     let t = h .before .before .before .args .text .now in
     let wide = h .before .if1 .left in
-    let head = sym (h .head-from .ensures) ∙ v .code .given .1 in
+    let head = sym (h .head-at .ensures) ∙ v .code .given .1 in
     let e = sym (r .scan .ensures) ∙ ap scanned (s .tally .given .1) in
     let q = c .before .before .before .before in
     let ranged = sym (q .ranged .ensures) ∙ not-false (q .ranged .result) (c .before .before .before .if3 .left) in
@@ -140,7 +140,7 @@ production-of-requires c κs =
     let h = v .before .before in
     let t = h .before .before .before .args .text .now in
     let wide = h .before .if1 .left in
-    let head = sym (h .head-from .ensures) ∙ v .code .given .1 in
+    let head = sym (h .head-at .ensures) ∙ v .code .given .1 in
     let e = sym (r .scan .ensures) ∙ ap scanned (s .tally .given .1) in
     let q = c .before .before .before .before .before .before in
     let ranged = sym (q .ranged .ensures) ∙ not-false (q .ranged .result) (c .before .before .before .before .before .if3 .left) in
@@ -159,7 +159,7 @@ returns-7 c =
     let h = v .before .before in
     let t = h .before .before .before .args .text .now in
     let wide = h .before .if1 .left in
-    let head = sym (h .head-from .ensures) ∙ v .code .given .1 in
+    let head = sym (h .head-at .ensures) ∙ v .code .given .1 in
     let e = sym (r .scan .ensures) ∙ ap scanned (s .tally .given .1) in
     let q = c .before .before .before .before .before .before .before in
     let ranged = sym (q .ranged .ensures) ∙ not-false (q .ranged .result) (c .before .before .before .before .before .before .if3 .left) in
@@ -174,7 +174,7 @@ text-in-spec =
     tie.close
     (tie.spec
     returns
-    head-from-requires
+    head-at-requires
     enum-known-code
     enum-told
     returns-2

@@ -6,50 +6,50 @@ use Rattle.rows.proofs.search.find.Statement.{statement}
 use Rattle.rows.proofs.search.find.Tie as tie
 use Rattle.rows.proofs.search.find.Reads as reads
 use Rattle.rows.proofs.search.find.Lts as lts
-use Rattle.rows.proofs.numbers.key_at.Reads as key-at-reads
+use Rattle.rows.proofs.search.key.Reads as key-reads
 use Rattle.rows.proofs.search.lower.Reads as lower-reads
 
--- src/search.rt:45:13
+-- src/search.rt:83:13
 mul-x : tie.Need-mul-x
 mul-x c = search needs
 
--- src/search.rt:45:13
+-- src/search.rt:83:13
 add-x : tie.Need-add-x
 add-x c = search needs
 
--- src/search.rt:46:9
+-- src/search.rt:84:9
 lower-requires : tie.Need-lower-requires
 lower-requires c κs = search needs
 
--- src/search.rt:48:9
+-- src/search.rt:86:9
 returns : tie.Need-returns
 returns c =
     let s = c .before .before in
     let a = s .args in
     (missing-end (a .rows .now) (a .state) (a .terminal) _ (c .before .lower .ensures) (omega arith), c .before .lower .ensures)
 
--- src/search.rt:50:8
-key-at-requires : tie.Need-key-at-requires
-key-at-requires c κs = search needs
+-- src/search.rt:88:8
+key-requires : tie.Need-key-requires
+key-requires c κs = search needs
 
--- src/search.rt:51:9
+-- src/search.rt:89:9
 returns-2 : tie.Need-returns-2
 returns-2 c =
     let l = c .before .before .before in
     let s = l .before in
     let a = s .args in
-    let e = sym (c .before .key-at .ensures) ∙ c .if2 .taken in
+    let e = sym (c .before .key .ensures) ∙ c .if2 .taken in
     (omega arith, found (a .rows .now) (a .state) (a .terminal) _ (l .lower .ensures) (s .pre .0) (s .pre .2) (omega arith) e)
 
--- src/search.rt:41:1
+-- src/search.rt:79:1
 returns-3 : tie.Need-returns-3
 returns-3 c =
     let l = c .before .before .before in
     let s = l .before in
     let a = s .args in
     (missing-here (a .rows .now) (a .state) (a .terminal) _ (l .lower .ensures) (s .pre .0) (omega arith)
-      (λ e. c .if2 .left (c .before .key-at .ensures ∙ e)), l .lower .ensures)
+      (λ e. c .if2 .left (c .before .key .ensures ∙ e)), l .lower .ensures)
 
 pub find-spec : {M : Type 1} → statement M
 find-spec =
-    tie.close (tie.spec mul-x add-x lower-requires returns key-at-requires returns-2 returns-3)
+    tie.close (tie.spec mul-x add-x lower-requires returns key-requires returns-2 returns-3)

@@ -18,7 +18,7 @@ use Rattle.text.proofs.passes.fill.Tie as tie
 use Rattle.text.proofs.passes.fill.Reads as reads
 use Rattle.text.proofs.passes.fill.Lts as lts
 use Rattle.text.proofs.passes.put_numbers.Reads as put-numbers-reads
-use Rattle.text.proofs.reading.row_from.Reads as row-from-reads
+use Rattle.text.proofs.reader.row_at.Reads as row-at-reads
 
 abbrev Inv-loop : tie.InvT-loop
 Inv-loop text at out₀ place₀ i₀ out place i =
@@ -39,8 +39,8 @@ loop-holds c =
     (omega arith, omega arith, refl, rw z (g .pre .1), refl)
 
 -- src/passes.rt:99:54
-row-from-requires : tie.Need-row-from-requires Inv-loop μ-loop
-row-from-requires c κs = search needs
+row-at-requires : tie.Need-row-at-requires Inv-loop μ-loop
+row-at-requires c κs = search needs
 
 -- src/passes.rt:99:26
 enum-known-from : tie.Need-enum-known-from Inv-loop μ-loop
@@ -60,7 +60,7 @@ returns c =
     let b = c .before .before .before .before in
     let a = b .before .before .args in
     let r = c .before .before in
-    no-bad (a .text .now) (b .loop .place) _ (omega arith) (b .loop .inv .3) (sym (r .row-from .ensures) ∙ c .enum-told .given .1)
+    no-bad (a .text .now) (b .loop .place) _ (omega arith) (b .loop .inv .3) (sym (r .row-at .ensures) ∙ c .enum-told .given .1)
 
 -- src/passes.rt:102:9
 put-numbers-requires : tie.Need-put-numbers-requires Inv-loop μ-loop
@@ -71,7 +71,7 @@ put-numbers-requires c κs =
     let t = b .before .before .args .text .now in
     let p = b .loop .place in
     let ready = b .loop .inv .3 in
-    let e = sym (r .row-from .ensures) ∙ v .from .given .1 in
+    let e = sym (r .row-at .ensures) ∙ v .from .given .1 in
     let room = row-room t p _ (omega arith) ready _ _ _ _ _ e in
     let f : Fit _ = fit _ (row-fit t p _ (omega arith) ready _ _ _ _ _ e) in
     (omega arith, omega (arith, f .from), f .terminal, omega (arith, f .to), omega (arith, f .production, code-back (v .from .given .0 .1 .1 .1 .0)))
@@ -83,7 +83,7 @@ add-i c =
     let r = v .before .before in
     let b = r .before .before in
     let t = b .before .before .args .text .now in
-    let e = sym (r .row-from .ensures) ∙ v .from .given .1 in
+    let e = sym (r .row-at .ensures) ∙ v .from .given .1 in
     let room = row-room t (b .loop .place) _ (omega arith) (b .loop .inv .3) _ _ _ _ _ e in
     omega arith
 
@@ -94,7 +94,7 @@ loop-less c =
     let r = v .before .before in
     let b = r .before .before in
     let t = b .before .before .args .text .now in
-    let h = row-from-at t (b .loop .place) _ _ _ _ _ (sym (r .row-from .ensures) ∙ v .from .given .1) in
+    let h = row-from-at t (b .loop .place) _ _ _ _ _ (sym (r .row-at .ensures) ∙ v .from .given .1) in
     omega (arith, h .later, h .inside)
 
 -- src/passes.rt:98:5
@@ -107,7 +107,7 @@ loop-again c =
     let t = b .before .before .args .text .now in
     let p = b .loop .place in
     let ready = b .loop .inv .3 in
-    let e = sym (r .row-from .ensures) ∙ v .from .given .1 in
+    let e = sym (r .row-at .ensures) ∙ v .from .given .1 in
     let h = row-from-at t p _ _ _ _ _ e in
     let room = row-room t p _ (omega arith) ready _ _ _ _ _ e in
     let q = w .put-numbers .ensures in
@@ -140,7 +140,7 @@ fill-spec =
     Inv-loop
     μ-loop
     loop-holds
-    row-from-requires
+    row-at-requires
     enum-known-from
     enum-told
     same-length

@@ -13,7 +13,7 @@ use Rattle.text.proofs.passes.scan.Tie as tie
 use Rattle.text.proofs.passes.scan.Reads as reads
 use Rattle.text.proofs.passes.scan.Lts as lts
 use Rattle.text.proofs.passes.tallied.Reads as tallied-reads
-use Rattle.text.proofs.reading.row_from.Reads as row-from-reads
+use Rattle.text.proofs.reader.row_at.Reads as row-at-reads
 
 abbrev Inv-loop : tie.InvT-loop
 Inv-loop text at tally₀ place₀ tally place =
@@ -27,8 +27,8 @@ loop-holds : tie.Need-loop-holds Inv-loop μ-loop
 loop-holds c = (omega arith, omega arith, refl)
 
 -- src/passes.rt:70:54
-row-from-requires : tie.Need-row-from-requires Inv-loop μ-loop
-row-from-requires c κs = search needs
+row-at-requires : tie.Need-row-at-requires Inv-loop μ-loop
+row-at-requires c κs = search needs
 
 -- src/passes.rt:70:26
 enum-known-from : tie.Need-enum-known-from Inv-loop μ-loop
@@ -44,7 +44,7 @@ returns c =
     let b = c .before .before .before .before in
     let a = b .before .before .args in
     let r = c .before .before in
-    let e = sym (r .row-from .ensures) ∙ c .enum-told .given .1 in
+    let e = sym (r .row-at .ensures) ∙ c .enum-told .given .1 in
     sym (b .loop .inv .2 ∙ tally-bad (a .text .now) (b .loop .place) (b .loop .tally) (omega arith) e)
 
 -- src/passes.rt:73:9
@@ -54,7 +54,7 @@ tallied-requires c κs =
     let r = v .before .before in
     let b = r .before .before in
     let a = b .before .before .args in
-    let e = sym (r .row-from .ensures) ∙ v .from .given .1 in
+    let e = sym (r .row-at .ensures) ∙ v .from .given .1 in
     let h = row-from-at (a .text .now) (b .loop .place) _ _ _ _ _ e in
     (omega arith, h .small .from, h .small .on)
 
@@ -65,7 +65,7 @@ loop-less c =
     let r = v .before .before in
     let b = r .before .before in
     let a = b .before .before .args in
-    let e = sym (r .row-from .ensures) ∙ v .from .given .1 in
+    let e = sym (r .row-at .ensures) ∙ v .from .given .1 in
     let h = row-from-at (a .text .now) (b .loop .place) _ _ _ _ _ e in
     omega (arith, h .later, h .inside)
 
@@ -76,7 +76,7 @@ loop-again c =
     let r = v .before .before in
     let b = r .before .before in
     let a = b .before .before .args in
-    let e = sym (r .row-from .ensures) ∙ v .from .given .1 in
+    let e = sym (r .row-at .ensures) ∙ v .from .given .1 in
     let h = row-from-at (a .text .now) (b .loop .place) _ _ _ _ _ e in
     let q : c .tallied .result .rows ≡ b .loop .tally .rows + 1 =
         ap (λ (s : Tally). s .rows) (c .tallied .ensures) ∙ tallied-rows (b .loop .tally) _ in (
@@ -101,7 +101,7 @@ scan-spec =
     Inv-loop
     μ-loop
     loop-holds
-    row-from-requires
+    row-at-requires
     enum-known-from
     enum-told
     returns

@@ -1,6 +1,3 @@
-use mathlib.Core.Path.{_≡_, sym}
-use native.Mathlib.Omega.{arith}
-use lib.Seq.{length-take-le}
 use Rattle.text.proofs.Ended.{head-unended, head-ended}
 use borrow.Author.Needs.{needs}
 use Rattle.text.proofs.reading.head_from.Statement.{statement}
@@ -10,34 +7,40 @@ use Rattle.text.proofs.reading.head_from.Lts as lts
 use Rattle.text.proofs.reading.head_of.Reads as head-of-reads
 use Rattle.text.proofs.reading.line_end.Reads as line-end-reads
 
--- src/reading.rt:91:9
+-- src/reading.rt:89:9
 line-end-requires : tie.Need-line-end-requires
 line-end-requires c κs = search needs
 
--- src/reading.rt:93:9
+-- src/reading.rt:91:9
 returns : tie.Need-returns
-returns c = head-unended _ _ (c .before .line-end .ensures .0) (c .if1 .taken)
+returns c = head-unended _ _ _ (c .before .line-end .ensures .0) (c .if1 .taken)
 
--- src/reading.rt:95:13
-slice-aggregate-head-of : tie.Need-slice-aggregate-head-of
-slice-aggregate-head-of c =
-    let e = c .before .before .line-end in
-    sym (length-take-le (e .result) (c .before .before .before .before .args .text .now) (e .ensures .2))
+-- src/reading.rt:93:13
+sub-head-of : tie.Need-sub-head-of
+sub-head-of c = search needs
 
--- src/reading.rt:95:27
+-- src/reading.rt:93:13
+part-head-of-start : tie.Need-part-head-of-start
+part-head-of-start c = search needs
+
+-- src/reading.rt:93:13
+part-head-of-end : tie.Need-part-head-of-end
+part-head-of-end c = search needs
+
+-- src/reading.rt:93:29
 add-head-of : tie.Need-add-head-of
 add-head-of c = search needs
 
--- src/reading.rt:95:5
+-- src/reading.rt:93:5
 head-of-requires : tie.Need-head-of-requires
 head-of-requires c κs = search needs
 
--- src/reading.rt:88:1
+-- src/reading.rt:86:1
 returns-2 : tie.Need-returns-2
 returns-2 c =
     let i = c .before .before in
     let a = i .before .before .before .args in
-    head-ended (a .text .now) _ (i .before .line-end .ensures .0) (i .if1 .left) _ (c .head-of .ensures)
+    head-ended (a .text .now) (a .at) _ (i .before .line-end .ensures .0) (i .if1 .left) _ (c .head-of .ensures)
 
 pub head-from-spec : {M : Type 1} → statement M
 head-from-spec =
@@ -45,7 +48,9 @@ head-from-spec =
     (tie.spec
     line-end-requires
     returns
-    slice-aggregate-head-of
+    sub-head-of
+    part-head-of-start
+    part-head-of-end
     add-head-of
     head-of-requires
     returns-2)

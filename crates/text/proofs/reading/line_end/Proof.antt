@@ -11,43 +11,42 @@ use Rattle.text.proofs.reading.line_end.Reads as reads
 use Rattle.text.proofs.reading.line_end.Lts as lts
 
 abbrev Inv-loop : tie.InvT-loop
-Inv-loop text at end₀ end = (at ≤ end) × (end ≤ length text) × (line-end text at ≡ line-end text end)
+Inv-loop text at end₀ end = (at ≤ end) × (line-end text at ≡ line-end text end)
 
 abbrev μ-loop : tie.MeasureT-loop
 μ-loop text at end₀ end = length text - end
 
--- src/reading.rt:66:5
+-- src/reading.rt:65:5
 loop-holds : tie.Need-loop-holds Inv-loop μ-loop
-loop-holds c = (omega arith, omega arith, refl)
+loop-holds c = (omega arith, refl)
 
--- src/reading.rt:67:12
+-- src/reading.rt:66:12
 shared-slice-read-if1 : tie.Need-shared-slice-read-if1 Inv-loop μ-loop
 shared-slice-read-if1 c = omega arith
 
--- src/reading.rt:68:13
+-- src/reading.rt:67:13
 returns : tie.Need-returns Inv-loop μ-loop
 returns c =
     let b = c .before .before .before in
     let a = b .before .args in
     let e = end-here (a .text .now) (b .loop .end) (omega arith) (c .if1 .taken) in
-    (omega arith, omega arith, omega arith)
+    (omega arith, omega arith)
 
--- src/reading.rt:70:9
+-- src/reading.rt:69:9
 add-end : tie.Need-add-end Inv-loop μ-loop
 add-end c = omega arith
 
--- src/reading.rt:66:5
+-- src/reading.rt:65:5
 loop-less : tie.Need-loop-less Inv-loop μ-loop
 loop-less c = omega arith
 
--- src/reading.rt:66:5
+-- src/reading.rt:65:5
 loop-again : tie.Need-loop-again Inv-loop μ-loop
 loop-again c =
     let b = c .before .before .before in
     let a = b .before .args in (
       omega arith,
-      omega arith,
-      b .loop .inv .2 ∙ end-next (a .text .now) (b .loop .end) (omega arith) (c .if1 .left) ∙ rw (← add-one (b .loop .end)),
+      b .loop .inv .1 ∙ end-next (a .text .now) (b .loop .end) (omega arith) (c .if1 .left) ∙ rw (← add-one (b .loop .end)),
     )
 
 -- src/reading.rt:61:1
@@ -56,7 +55,7 @@ returns-2 c =
     let b = c .before in
     let a = b .before .args in
     let e = end-none (a .text .now) (b .loop .end) (c .loop-test .left) in
-    (omega arith, omega arith, omega arith)
+    (omega arith, omega arith)
 
 pub line-end-spec : {M : Type 1} → statement M
 line-end-spec =

@@ -1,0 +1,55 @@
+use mathlib.Core.Path.{_≡_, refl}
+use mathlib.Core.Option.{none}
+use Rattle.paper.specs.Rows.{rows-in}
+use Rattle.rows.specs.Places.{uncoded}
+use Rattle.ruled.proofs.Passes.{fitting}
+use Rattle.shrink.proofs.Parts.{shape-rows, classes-named}
+use borrow.Author.Needs.{needs}
+use Rattle.shrink.proofs.shrink_indexed.Statement.{statement}
+use Rattle.shrink.proofs.shrink_indexed.Tie as tie
+use Rattle.shrink.proofs.shrink_indexed.Reads as reads
+use Rattle.shrink.proofs.shrink_indexed.Lts as lts
+use Rattle.shrink.proofs.classes.classes.Reads as classes-reads
+use Rattle.shrink.proofs.classes.top.Reads as top-reads
+use Rattle.shrink.proofs.write.Reads as write-reads
+
+-- src/lib.rt:68:9
+top-requires : tie.Need-top-requires
+top-requires c κs = (c .pre .0 .1, fitting (c .pre .0 .0 .passed) (c .pre .0 .0 .few))
+
+-- src/lib.rt:69:5
+classes-requires : tie.Need-classes-requires
+classes-requires c κs =
+    let t = c .before in
+    let s = t .before in
+    let a = s .args in
+    (s .pre .0, t .top .ensures, shape-rows none (uncoded (a .p0)) 0 0 (rows-in (a .rows .now)) (s .pre .1), refl)
+
+-- src/lib.rt:70:5
+write-requires : tie.Need-write-requires
+write-requires c κs =
+    let k = c .before .before in
+    let t = k .before .before in
+    let s = t .before in
+    let a = s .args in (
+      s .pre .0,
+      classes-named (a .mode) (a .p0) (a .rows .now) _ (fitting (s .pre .0 .0 .passed) (s .pre .0 .0 .few)) (k .classes .ensures),
+      t .top .ensures,
+      s .pre .2,
+      s .pre .3,
+    )
+
+-- src/lib.rt:55:1
+same-length : tie.Need-same-length
+same-length c = search needs
+
+-- src/lib.rt:55:1
+returns : tie.Need-returns
+returns c =
+    let w = c .before in
+    let k = w .before .before .before in
+    record { class = _; classes = k .classes .ensures; wrote = w .write .ensures }
+
+pub shrink-indexed-spec : {M : Type 1} → statement M
+shrink-indexed-spec =
+    tie.close (tie.spec top-requires classes-requires write-requires same-length returns)

@@ -1,0 +1,29 @@
+use Rattle.shrink.proofs.Begins.{filled}
+use borrow.Author.Needs.{needs}
+use Rattle.shrink.proofs.write.Statement.{statement}
+use Rattle.shrink.proofs.write.Tie as tie
+use Rattle.shrink.proofs.write.Reads as reads
+use Rattle.shrink.proofs.write.Lts as lts
+use Rattle.shrink.proofs.emit.emit.Reads as emit-reads
+use Rattle.shrink.proofs.places.places.Reads as places-reads
+
+-- src/lib.rt:46:9
+places-requires : tie.Need-places-requires
+places-requires c κs =
+    let s = c .before in
+    (s .pre .0 .1, s .pre .2, s .pre .1, filled 65535)
+
+-- src/lib.rt:47:9
+emit-requires : tie.Need-emit-requires
+emit-requires c κs = search needs
+
+-- src/lib.rt:32:1
+same-length : tie.Need-same-length
+same-length c = search needs
+
+-- src/lib.rt:32:1
+returns : tie.Need-returns
+returns c = search needs
+
+pub write-spec : {M : Type 1} → statement M
+write-spec = tie.close (tie.spec places-requires emit-requires same-length returns)

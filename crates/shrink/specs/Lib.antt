@@ -1,0 +1,4 @@
+pub mod Index
+pub mod Faces
+pub mod Classes
+pub mod Output

@@ -1,0 +1,36 @@
+use Rattle.rows.specs.Places.{uncoded}
+use Rattle.unite.proofs.Meets.{intake-root, archive-root}
+use borrow.Author.Needs.{needs}
+use Rattle.unite.proofs.meet.root.Statement.{statement}
+use Rattle.unite.proofs.meet.root.Tie as tie
+use Rattle.unite.proofs.meet.root.Reads as reads
+use Rattle.unite.proofs.meet.root.Lts as lts
+use Rattle.unite.proofs.meet.agree.Reads as agree-reads
+
+-- src/meet.rt:54:25
+enum-told : tie.Need-enum-told
+enum-told c = search needs
+
+-- src/meet.rt:54:25
+agree-requires : tie.Need-agree-requires
+agree-requires c κs = search needs
+
+-- src/meet.rt:55:26
+enum-told-2 : tie.Need-enum-told-2
+enum-told-2 c = search needs
+
+-- src/meet.rt:49:1
+returns : tie.Need-returns
+returns c =
+    let s = c .before .before .before in
+    intake-root (s .args .mode) (uncoded (s .args .p)) (uncoded (s .args .q)) (c .before .enum-told .given .1) (c .agree .result)
+      (c .agree .ensures)
+
+-- src/meet.rt:49:1
+returns-2 : tie.Need-returns-2
+returns-2 c =
+    let s = c .before .before in
+    (s .pre .0, archive-root (s .args .mode) (uncoded (s .args .p)) (uncoded (s .args .q)) (c .enum-told2 .given .1))
+
+pub root-spec : {M : Type 1} → statement M
+root-spec = tie.close (tie.spec enum-told agree-requires enum-told-2 returns returns-2)

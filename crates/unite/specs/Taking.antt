@@ -1,0 +1,119 @@
+-- One row of the second taken into rows, and all of them: what `take-row` and `take-rows` do to rows alone.
+use mathlib.Core.Path.{_≡_}
+use mathlib.Core.Option.{Option, none, some}
+use mathlib.Core.List.{List, [], _∷_, map}
+use Prim.Native.Nat.{ℕ, suc, _+_, _*_, _/_, _≤_, _<_}
+use lib.ListN.{length, getD, take}
+use lib.IntN.{ℤ}
+use Rattle.paper.specs.declared.Mode.{Mode}
+use Rattle.paper.specs.Rows.{Row, find, rows-in}
+use Rattle.paper.specs.Answers.{Ruling, accept, refuse, then}
+use Rattle.paper.specs.Build.{insert, Standing}
+use Rattle.paper.specs.Unite.{taken, United, take-rows}
+use Rattle.rows.specs.Places.{code, uncoded}
+use Rattle.rows.specs.Search.{Lower, Passed}
+use Rattle.grow.specs.Held.{held, row-held, Laid}
+use Rattle.trees.proofs.Paint.{paint}
+use Rattle.trees.proofs.Tree.{Tree}
+use Rattle.unite.specs.declared.taking.Took.{Took}
+use Rattle.unite.specs.declared.taking.Took.the-variants as took
+use Rattle.unite.specs.declared.taking.Union.{Union}
+use Rattle.unite.specs.declared.taking.Union.the-variants as union
+use Rattle.unite.specs.declared.scan.Scan.{Scan}
+use Rattle.unite.specs.declared.scan.Scan.the-variants as scan
+
+-- A table of rows, with which states match.
+abbrev pub so-far : Option ℕ → ℕ → List Row → List (ℕ × ℕ) → United
+so-far p k rs ms = record { table = record { prod0 = p; k = k; rows = rs }; matches = ms }
+
+-- From the state s by the terminal t into a state with the production q: along the row x, which takes the
+-- production, or into a new state.
+unfoldable pub taking : Mode → List Row → ℕ → ℕ → Option ℕ → Option Row → Ruling Standing
+taking mode rs s t q none = accept (record {
+  rows = insert (record { from = s; terminal = t; to = suc (length rs); production = q }) rs;
+  state = suc (length rs);
+})
+taking mode rs s t q (some x) = then (taken mode (x .production) q) (λ z. accept (record {
+  rows = map (paint (x .to) z) rs;
+  state = x .to;
+}))
+
+-- The rows and the state that come of it.
+pub record Stands (new : List ℤ) (n s : ℕ) (g : Ruling Standing) : Type 0 where
+  pub laid : Laid new n
+  pub small : s ≤ 1023
+  pub is : g ≡ accept (record { rows = held new n; state = s })
+
+-- A 1,024th row would come of it.
+pub record Over (g : Ruling Standing) : Type 0 where
+  pub standing : Standing
+  pub is : g ≡ accept standing
+  pub over : 1023 < length (standing .rows)
+
+abbrev pub Takes : List ℤ → Ruling Standing → Took → Type 0
+Takes new g (took.Row n s) = Stands new n (s .0) g
+Takes new g (took.Clash p q) = g ≡ refuse 8 (p .0 ∷ q .0 ∷ [])
+Takes new g took.Full = Over g
+
+-- The row is none, or the row x.
+abbrev pub Adds : List ℤ → List Row → ℕ → ℕ → Option ℕ → Took → Type 0
+Adds new rs s t q r = (mode : Mode) → Takes new (taking mode rs s t q none) r
+
+abbrev pub Matches : Mode → List ℤ → List Row → Option ℕ → Row → Took → Type 0
+Matches mode new rs q x r = (s t : ℕ) → Takes new (taking mode rs s t q (some x)) r
+
+-- The search found no row, and i is where it would go.
+pub record Missed (buf : List ℤ) (n i s t code : ℕ) : Type 0 where
+  pub laid : Laid buf n
+  pub from : s ≤ 1023
+  pub production : code ≤ 65536
+  pub new : find (held buf n) s t ≡ none
+  pub place : Lower (take (n * 4) buf) (s * 65536 + t) i
+
+-- The search found row i of a tree.
+pub record Hit (buf : List ℤ) (n i code : ℕ) : Type 0 where
+  pub laid : Laid buf n
+  pub tree : Tree (held buf n)
+  pub there : i < n
+  pub production : code ≤ 65536
+
+-- All rows of the second, for any prod0 and k: accepted with the rows that the array holds,
+abbrev pub all-rows : Mode → List Row → List Row → Option ℕ → ℕ → Ruling United
+all-rows mode xs ys p k = take-rows mode (so-far p k xs []) ys
+
+pub record Unites (mode : Mode) (xs ys : List Row) (new : List ℤ) (n : ℕ) : Type 0 where
+  pub laid : Laid new n
+  pub matches : List (ℕ × ℕ)
+  pub is : (p : Option ℕ) (k : ℕ) → all-rows mode xs ys p k ≡ accept (so-far p k (held new n) matches)
+
+-- or refused by 8,
+pub record Clashes (mode : Mode) (xs ys : List Row) (a b : ℕ) : Type 0 where
+  pub is : (p : Option ℕ) (k : ℕ) → all-rows mode xs ys p k ≡ refuse 8 (a ∷ b ∷ [])
+
+-- or, if accepted at all, with a 1,024th row,
+pub record Overflows (mode : Mode) (xs ys : List Row) : Type 0 where
+  pub is : (p : Option ℕ) (k : ℕ) (u : United) → all-rows mode xs ys p k ≡ accept u → 1023 < length (u .table .rows)
+
+-- or accepted, whatever comes of it.
+pub record Accepts (mode : Mode) (xs ys : List Row) : Type 0 where
+  pub is : (p : Option ℕ) (k : ℕ) → (u : United) × (all-rows mode xs ys p k ≡ accept u)
+
+abbrev pub United-rows : Mode → List Row → List Row → List ℤ → Union → Type 0
+United-rows mode xs ys new (union.Rows n) = Unites mode xs ys new n
+United-rows mode xs ys new (union.Clash p q) = Clashes mode xs ys (p .0) (q .0)
+United-rows mode xs ys new union.Full = Overflows mode xs ys
+
+abbrev pub Scanned : Mode → List Row → List Row → Scan → Type 0
+Scanned mode xs ys (scan.Clash p q) = Clashes mode xs ys (p .0) (q .0)
+Scanned mode xs ys scan.Free = Accepts mode xs ys
+
+-- The array of matches holds for each state what f says of it.
+pub record Maps (f : ℕ → ℕ) (map : List ℕ) : Type 0 where
+  pub sized : length map ≡ 1024
+  pub held : (s : ℕ) → s < 1024 → getD map s 0 ≡ f s
+
+-- The rows of a slice are those of a tree with at most 1,023 rows.
+pub record Treed (ns : List ℤ) : Type 0 where
+  pub passed : Passed ns
+  pub tree : Tree (rows-in ns)
+  pub whole : length ns ≤ 4092
