@@ -44,7 +44,7 @@ fn refused(bytes: &[u8], place: usize, refusal: Refusal, out: &[i32]) -> Outcome
 }
 
 // Four a row; none of more rows than a table may have, which the list then shows to be wrong.
-fn numbers_of(rows: usize) -> usize {
+pub fn numbers_of(rows: usize) -> usize {
     if rows < 4097 { rows * 4 } else { 0 }
 }
 

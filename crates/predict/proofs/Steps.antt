@@ -63,7 +63,8 @@ step-count rs t w = by-count w (find rs (w .state) t)
 
 module _ (rs : List Row) (ts : List ℕ) (i : ℕ) where
   -- one turn of the walk over all tokens, and its end
-  pub walk-next : (w v : Walk) → i < length ts → v ≡ step rs (getD ts i 0) w → walk rs (drop i ts) w ≡ walk rs (drop (i + 1) ts) v
+  pub walk-next : (w v : Walk) → i < length ts → v ≡ step rs (getD ts i 0) w → walk rs (drop i ts) w ≡ walk rs
+      (drop (i + 1) ts) v
   unfolding walk
   walk-next w v h e =
       ap (λ (l : List ℕ). walk rs l w) (drop-cons ts i 0 h)

@@ -26,7 +26,8 @@ compared a b f g h =
     h (above n m)))
   where
     above : {x y : ℕ} → (x ≡ y → ⊥) → y ≤ x → y < x
-    above {x} {y} n m = by-test (ltb y x) (λ e. ltb-true y x e) (λ e. let k : x ≤ y = ltb-false y x e in absurd (n (omega arith)))
+    above {x} {y} n m = by-test (ltb y x) (λ e. ltb-true y x e) (λ e. let k : x ≤ y = ltb-false y x e in absurd (n
+        (omega arith)))
 
 -- one row comes before another exactly when its key is lower
 pub before-key : (a b : Row) → a .terminal ≤ 65535 → b .terminal ≤ 65535 → before a b ≡ ltb (key a) (key b)
@@ -66,12 +67,14 @@ module _ (ns : List ℤ) (i : ℕ) where
       ap rising (pair h) ∙ ap (λ (rs : List Row). before (row-at ns i) (row-at ns (i + 1)) && rising rs) (sym r)
 
   module _ (fits : every row-fits (rows-in ns) ≡ true) (h : i * 4 + 7 < length ns) where
-    pub rising-key : rising (rest ns i) ≡ (ltb (key (row-at ns i)) (key (row-at ns (i + 1))) && rising (rest ns (i + 1)))
+    pub rising-key : rising (rest ns i) ≡ (ltb (key (row-at ns i)) (key (row-at ns (i + 1))) && rising (rest ns
+        (i + 1)))
     rising-key =
         let a = fit (row-at ns i) (every-at row-fits ns i fits (omega arith)) in
         let b = fit (row-at ns (i + 1)) (every-at row-fits ns (i + 1) fits (omega arith)) in
         rising-cons h
-        ∙ ap (λ (t : Bool). t && rising (rest ns (i + 1))) (before-key (row-at ns i) (row-at ns (i + 1)) (a .terminal) (b .terminal))
+        ∙ ap (λ (t : Bool). t && rising (rest ns (i + 1))) (before-key (row-at ns i) (row-at ns (i + 1))
+            (a .terminal) (b .terminal))
 
     -- a row below the next, and one that is not
     pub rising-next : key (row-at ns i) < key (row-at ns (i + 1)) → rising (rest ns i) ≡ rising (rest ns (i + 1))

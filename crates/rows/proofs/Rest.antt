@@ -108,4 +108,5 @@ every-from f ns h (suc i) = by-place ns i
 
 pub every-at : (f : Row → Bool) (ns : List ℤ) (i : ℕ) → every f (rows-in ns) ≡ true → i * 4 + 3 < length ns
     → f (row-at ns i) ≡ true
-every-at f ns i h l = both (f (row-at ns i)) (every f (rest ns (i + 1))) (sym (every-cons f ns i l) ∙ every-from f ns h i) .0
+every-at f ns i h l = both (f (row-at ns i)) (every f (rest ns (i + 1))) (sym (every-cons f ns i l)
+    ∙ every-from f ns h i) .0

@@ -1,29 +1,28 @@
 -- Writing what was read gives the same bytes. Assumes nothing.
-use mathlib.Core.Path.{_≡_, refl, ap, sym, _∙_}
-use mathlib.Core.Bool.{Bool, true, false, not, _&&_, _||_, cond}
+-- a check that did not refuse
+use Prim.Native.Nat.{ℕ, _*_, _%_, _≤_}
+use mathlib.Core.Path.{_≡_, refl, ap, _∙_}
+use mathlib.Core.Bool.{Bool, true, false, cond}
 use mathlib.Core.List.{List, [], _∷_}
-use Prim.Native.Nat.{ℕ, _+_, _*_, _%_, _<_, _≤_}
 use native.Mathlib.Omega.{arith}
 use native.Mathlib.Nat.{mul-mod-left}
-use borrow.Author.Tests.{le-ltb, ltb-false, eq-eqb}
-use lib.Dec.{eqb, ltb}
+use borrow.Author.Tests.{le-ltb, ltb-false}
+use lib.Dec.{ltb}
 use lib.ListN.{length}
 use lib.IntN.{ℤ}
 use Rattle.paper.specs.Rows.{Table, table, rows-in, numbers, signed, accepting}
 use Rattle.paper.specs.Answers.{Ruling, accept, refuse, then}
 use Rattle.paper.specs.Checks.{first, plain, range, order, little-room, row-slice}
-use Rattle.paper.specs.Text.{lines, read-lines, text, text-in, text-out}
-use Rattle.rows.proofs.Rest.{by-test, length-rows}
+use Rattle.paper.specs.Text.{lines, read-lines, text-in, text-out}
+use Rattle.rows.proofs.Rest.{length-rows}
 use Rattle.text.proofs.Kept.{production-kept, numbers-kept}
+use Rattle.text.proofs.Never.{refuse-accept}
 use Rattle.text.proofs.Out.{out-text, in-range}
-use Rattle.text.proofs.Joined.{Read-from, text-back}
+use Rattle.text.proofs.Joined.{text-back}
 
-pub never : {P A : Type 0} {n : ℕ} {d : List ℕ} {a : A} → refuse n d ≡ accept a → P
-never e = let z : _≡_ {A = ℕ} 0 1 = cc in absurd (omega arith)
-
--- a check that did not refuse
-pub passes : {A : Type 0} (b : Bool) (n : ℕ) (r : Ruling A) (a : A) → cond b (refuse n []) r ≡ accept a → (b ≡ false) × (r ≡ accept a)
-passes true n r a e = never e
+pub passes : {A : Type 0} (b : Bool) (n : ℕ) (r : Ruling A) (a : A) → cond b (refuse n []) r ≡ accept a →
+    (b ≡ false) × (r ≡ accept a)
+passes true n r a e = refuse-accept e
 passes false n r a e = (refl, e)
 
 -- the checks of a table that text in accepts
@@ -50,7 +49,7 @@ passed t room tb e = go (read-lines (lines t)) refl (passes (little-room room) 1
           ranged = rw v at (b .0);
           ordered = rw v at (c .0);
         }
-    go (refuse m d) q w = never w
+    go (refuse m d) q w = refuse-accept w
 
 whole-slice : (ns : List ℤ) (m : ℕ) → length ns ≡ m * 4 → m ≤ 4096 → row-slice ns ≡ false
 unfolding row-slice

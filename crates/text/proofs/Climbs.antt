@@ -1,12 +1,12 @@
 -- What the pass over all rows has learnt at its end. Assumes nothing.
+use Prim.Native.Nat.{ℕ, suc, _+_}
 use mathlib.Core.Path.{_≡_, refl, ap, sym, _∙_}
 use mathlib.Core.Bool.{Bool, true, false, _&&_}
 use mathlib.Core.List.{List, [], _∷_}
-use Prim.Native.Nat.{ℕ, zero, suc, _+_, _<_, _≤_}
 use native.Mathlib.Omega.{arith}
 use native.Mathlib.Numerals.{add-one}
 use native.Mathlib.Nat.{add-zero}
-use lib.Dec.{leb, ltb, leb·zero}
+use lib.Dec.{leb, leb·zero}
 use lib.ListN.{length}
 use Rattle.paper.specs.Rows.{Row}
 use Rattle.paper.specs.Checks.{every, row-fits, rising, before}

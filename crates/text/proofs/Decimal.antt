@@ -1,11 +1,12 @@
 -- A number's digits are read as the number, and digits in form are the number's. Assumes nothing.
-use mathlib.Core.Path.{_≡_, refl, ap, sym, _∙_}
-use mathlib.Core.Bool.{Bool, true, false, not, _&&_, _||_, cond, or-true}
-use mathlib.Core.List.{List, [], _∷_, _++_, append-assoc, append-nil}
+-- the number of digits, after a number that stands before them
 use Prim.Native.Nat.{ℕ, zero, suc, _+_, _-_, _*_, _/_, _%_, _^_, _<_, _≤_}
+use mathlib.Core.Path.{_≡_, refl, ap, sym, _∙_}
+use mathlib.Core.Bool.{true, false, not, _&&_, _||_, or-true}
+use mathlib.Core.List.{List, [], _∷_, _++_, append-assoc, append-nil}
 use native.Mathlib.Omega.{arith}
 use native.Mathlib.Nat.{mod-lt, div-add-mod', pow-suc, add-zero}
-use borrow.Author.Tests.{ltb-true, ltb-false, le-leb, leb-true, eqb-true, eqb-false, ne-eqb, not-true}
+use borrow.Author.Tests.{ltb-true, ltb-false, le-leb, leb-true, eqb-false, ne-eqb, not-true}
 use lib.Dec.{eqb, ltb, leb}
 use lib.ListN.{length, getD, take, drop, length-append, take-append-drop, List·getD-append}
 use lib.Seq.{getD-take}
@@ -14,7 +15,6 @@ use Rattle.rows.proofs.Rest.{by-test, both}
 use Rattle.text.proofs.Digits.{digits-less, digits-more, width-less, width-most}
 use Rattle.text.proofs.Numbers.{digit-yes, digit-of}
 
--- the number of digits, after a number that stands before them
 abbrev pub num : ℕ → List ℕ → ℕ
 num n [] = n
 num n (b ∷ bs) = num (n * 10 + (b - 48)) bs
@@ -50,7 +50,8 @@ are-digits (suc f) n = by-test (ltb n 10)
     (λ e. let h = ltb-true n 10 e in rw e (digit-yes (48 + n) (omega arith) (omega arith), tt))
     (λ e.
       let m = mod-lt n {m = 10} (omega arith) in
-      rw e (digits-last (digits f (n / 10)) (48 + n % 10) (are-digits f (n / 10)) (digit-yes (48 + n % 10) (omega arith) (omega arith))))
+      rw e (digits-last (digits f (n / 10)) (48 + n % 10) (are-digits f (n / 10))
+        (digit-yes (48 + n % 10) (omega arith) (omega arith))))
 
 own-number : (f n : ℕ) → n < 10 ^ f → num 0 (digits f n) ≡ n
 unfolding digits
@@ -59,7 +60,8 @@ own-number (suc f) n h = by-test (ltb n 10)
     (λ e. rw e (omega arith))
     (λ e.
       let k : n / 10 < 10 ^ f = omega (arith, pow-suc 10 f) in
-      rw e (num-last 0 (digits f (n / 10)) (48 + n % 10) ∙ rw (own-number f (n / 10) k) (omega (arith, div-add-mod' n 10))))
+      rw e (num-last 0 (digits f (n / 10)) (48 + n % 10) ∙ rw (own-number f (n / 10) k)
+        (omega (arith, div-add-mod' n 10))))
 
 -- a number's first digit is no 0 unless it is 0
 pub own-first : (f n : ℕ) → 0 < n → n < 10 ^ f → (0 < length (digits f n)) × (getD (digits f n) 0 0 ≡ 48 → ⊥)
@@ -74,7 +76,8 @@ own-first (suc f) n h k = by-test (ltb n 10)
       (omega (arith, length-append (digits f (n / 10)) last),
         λ q. w .1 (sym (List·getD-append (digits f (n / 10)) last 0 0 (w .0)) ∙ q)))
 
-in-form-of : (bs : List ℕ) (c : ℕ) → c ≡ digit-count bs → 1 ≤ c → c ≤ 5 → (eqb c 1 || not (eqb (getD bs 0 0) 48)) ≡ true →
+in-form-of : (bs : List ℕ) (c : ℕ) → c ≡ digit-count bs → 1 ≤ c → c ≤ 5 →
+    (eqb c 1 || not (eqb (getD bs 0 0) 48)) ≡ true →
     in-form bs ≡ true
 unfolding in-form
 in-form-of bs c e h k q = rw (← e, le-leb 1 c h, le-leb c 5 k) q
@@ -94,7 +97,8 @@ written n bs h e =
       number = value-num 0 (digits 5 n) bs ∙ own-number 5 n h;
     }
   where
-    formed : (m : ℕ) → m < 100000 → digit-count (digits 5 m ++ bs) ≡ length (digits 5 m) → in-form (digits 5 m ++ bs) ≡ true
+    formed : (m : ℕ) → m < 100000 → digit-count (digits 5 m ++ bs) ≡ length (digits 5 m) →
+        in-form (digits 5 m ++ bs) ≡ true
     formed zero k c =
         let w : length (digits 5 0) ≡ 1 = width-less 4 0 (omega arith) in
         in-form-of (digits 5 0 ++ bs) (length (digits 5 0)) (sym c) (omega arith) (omega arith) (rw w)
@@ -175,5 +179,6 @@ formed-digits bs e =
     let n = lead-length bs in
     let f : (eqb (length (lead bs)) 1 || not (eqb (getD (lead bs) 0 0) 48)) ≡ true = rw (n, lead-first bs a) (h .1) in
     ap (λ (x : ℕ). digits 5 x ++ drop (digit-count bs) bs) (lead-number 0 bs)
-    ∙ ap (λ (x : List ℕ). x ++ drop (digit-count bs) bs) (rebuilt (lead bs) (lead-digits bs) (omega arith) (omega arith) f)
+    ∙ ap (λ (x : List ℕ). x ++ drop (digit-count bs) bs)
+      (rebuilt (lead bs) (lead-digits bs) (omega arith) (omega arith) f)
     ∙ take-append-drop (digit-count bs) bs

@@ -1,8 +1,8 @@
 -- The digits of a number, as a loop writes them from the last to the first. Assumes nothing.
-use mathlib.Core.Path.{_≡_, refl, ap, sym, _∙_}
-use mathlib.Core.Bool.{Bool, true, false, cond}
+-- as many digits of a number as asked for, the last ones
+use Prim.Native.Nat.{ℕ, zero, suc, _+_, _-_, _/_, _%_, _<_, _≤_}
+use mathlib.Core.Path.{_≡_, refl, ap, _∙_}
 use mathlib.Core.List.{List, [], _∷_, _++_}
-use Prim.Native.Nat.{ℕ, zero, suc, _+_, _-_, _*_, _/_, _%_, _<_, _≤_}
 use native.Mathlib.Omega.{arith}
 use native.Mathlib.Numerals.{add-one}
 use native.Mathlib.Nat.{mod-eq-of-lt, le-refl}
@@ -10,11 +10,10 @@ use borrow.Author.Tests.{ltb-true, ltb-false, lt-ltb, le-ltb}
 use lib.Dec.{ltb}
 use lib.ListN.{length, set, length-append}
 use Rattle.paper.specs.Text.{digits}
-use Rattle.text.specs.Put.{put}
 use Rattle.rows.proofs.Rest.{by-test}
+use Rattle.text.specs.Put.{put}
 use Rattle.text.proofs.Put.{put-last}
 
--- as many digits of a number as asked for, the last ones
 abbrev pub pad : ℕ → ℕ → List ℕ
 pad zero n = []
 pad (suc i) n = pad i (n / 10) ++ ((48 + n % 10) ∷ [])

@@ -1,11 +1,12 @@
 -- The pass that writes rows: their numbers as they are stored, and row after row. Assumes nothing.
-use mathlib.Core.Path.{_≡_, refl, ap, sym, _∙_}
-use mathlib.Core.Bool.{Bool, true, false, _&&_}
-use mathlib.Core.List.{List, [], _∷_, _++_}
+-- numbers as they are stored
 use Prim.Native.Nat.{ℕ, zero, suc, _+_, _-_, _<_, _≤_}
+use mathlib.Core.Path.{_≡_, refl, ap, sym, _∙_}
+use mathlib.Core.Bool.{true, _&&_}
+use mathlib.Core.List.{List, [], _++_}
 use native.Mathlib.Omega.{arith}
-use lib.IntN.{ℤ, pos, negsuc}
-use lib.ListN.{length, length-append}
+use lib.IntN.{ℤ, pos}
+use lib.ListN.{length}
 use mir.Syntax.{w32}
 use mir.Val.{toZ, ofZ}
 use mir.Facts.{toZ-ofZ}
@@ -19,11 +20,11 @@ use Rattle.text.specs.Put.{put}
 use Rattle.text.specs.Reading.{row-from}
 use Rattle.text.specs.Written.{row, row-numbers}
 use Rattle.text.specs.Tally.{rows-read, taken, numbers-from, Ready}
+use Rattle.text.proofs.Never.{refuse-accept}
 use Rattle.text.proofs.Put.{put-put}
 use Rattle.text.proofs.Parted.{rows-end, rows-bad}
 use Rattle.text.proofs.Tallied.{row-back, rows-cons}
 
--- numbers as they are stored
 pub stored : (n : ℕ) (z : ℤ) → n ≤ 65535 → z ≡ pos n → toZ w32 (ofZ w32 z) ≡ pos n
 stored n z h e = rw e (toZ-ofZ {w = w32} {z = pos n} (record { sfits = omega arith }))
 
@@ -31,16 +32,14 @@ pub stored-code : (c : ℕ) (z : ℤ) → c ≤ 65536 → z ≡ signed (uncoded 
 stored-code zero z h e = rw e
 stored-code (suc n) z h e = stored n z (omega arith) e
 
-never : {P : Type 0} {n : ℕ} {d : List ℕ} {ns : List ℤ} → refuse n d ≡ accept ns → P
-never e = let z : _≡_ {A = ℕ} 0 1 = cc in absurd (omega arith)
-
 module _ (t : List ℕ) (at room : ℕ) (h : at < length t) (ready : Ready t at room) where
   -- a bad line is not met
   pub no-bad : {P : Type 0} → row-from t at ≡ row-line.Bad → P
-  no-bad e = never (sym (rows-bad t at h e) ∙ ready .formed)
+  no-bad e = refuse-accept (sym (rows-bad t at h e) ∙ ready .formed)
 
   module _ (f o g c n : ℕ) (e : row-from t at ≡ row-line.Row f o g c n) where
-    next-read : (rows-read t n ≡ accept (numbers-from t n)) × (numbers-from t at ≡ row-numbers (row f o g c) ++ numbers-from t n)
+    next-read : (rows-read t n ≡ accept (numbers-from t n)) ×
+      (numbers-from t at ≡ row-numbers (row f o g c) ++ numbers-from t n)
     unfolding numbers-from
     next-read = go (rows-read t n) refl
       where
@@ -54,7 +53,7 @@ module _ (t : List ℕ) (at room : ℕ) (h : at < length t) (ready : Ready t at 
           q ∙ ap (λ (x : Ruling (List ℤ)). accept (taken x)) (sym q),
           ap taken (rows-cons t at f o g c n h e ∙ ap after q) ∙ ap (λ (x : Ruling (List ℤ)). r ++ taken x) (sym q),
         )
-        go (refuse m d) q = never (sym (rows-cons t at f o g c n h e ∙ ap after q) ∙ ready .formed)
+        go (refuse m d) q = refuse-accept (sym (rows-cons t at f o g c n h e ∙ ap after q) ∙ ready .formed)
 
     next-fit : (row-fits (row f o g c) && every row-fits (rows-in (numbers-from t n))) ≡ true
     unfolding every

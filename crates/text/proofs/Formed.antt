@@ -1,16 +1,17 @@
 -- What the pieces of a line say of reading it by its form. Assumes nothing.
+-- the rest of a form after a word
 use Prim.Native.String.{String}
+use Prim.Native.Nat.{ℕ, suc, _+_, _-_, _<_, _≤_}
 use mathlib.Core.Path.{_≡_, refl, ap, sym, _∙_}
-use mathlib.Core.Bool.{Bool, true, false, not, _&&_, cond}
+use mathlib.Core.Bool.{true, false}
 use mathlib.Core.Option.{Option, none, some}
 use mathlib.Core.List.{List, [], _∷_}
-use Prim.Native.Nat.{ℕ, zero, suc, _+_, _-_, _<_, _≤_}
 use native.Mathlib.Omega.{arith}
 use borrow.Author.Tests.{eqb-true, eqb-false}
 use lib.Dec.{eqb}
 use lib.IntN.{ℤ, pos, negsuc}
-use lib.ListN.{length, drop, length-drop, drop-of-length-le}
-use lib.Seq.{drop-drop, drop-length}
+use lib.ListN.{length, drop, length-drop}
+use lib.Seq.{drop-drop}
 use Rattle.paper.specs.Words.{bytes}
 use Rattle.paper.specs.Rows.{signed}
 use Rattle.paper.specs.Text.{Piece, word, count, production, past, in-form, value, digit-count, read, and-then}
@@ -19,9 +20,9 @@ use Rattle.rows.proofs.Rest.{by-test, both}
 use Rattle.text.specs.declared.pieces.Number.{Number}
 use Rattle.text.specs.declared.pieces.Number.the-variants.{Is, Bad}
 use Rattle.text.specs.Pieces.{starts, number-at, as-code, production-at, field-at, last-at, ends-at}
+use Rattle.text.proofs.Never.{no-number}
 use Rattle.text.proofs.Starts.{past-starts, starts-within}
 
--- the rest of a form after a word
 abbrev pub after : List Piece → Option (List ℕ) → Option (List ℤ)
 after ps none = none
 after ps (some bs) = read ps bs
@@ -36,14 +37,16 @@ module _ (l : List ℕ) (at : ℕ) (ps : List Piece) where
   pub read-word : (w : String) → starts (bytes w) (drop at l) ≡ true →
       read (word w ∷ ps) (drop at l) ≡ read ps (drop (at + length (bytes w)) l)
   read-word w e =
-      read-after w ps (drop at l) (some (drop (length (bytes w)) (drop at l))) (past-starts (bytes w) (drop at l) ∙ rw e)
+      read-after w ps (drop at l) (some (drop (length (bytes w)) (drop at l)))
+        (past-starts (bytes w) (drop at l) ∙ rw e)
       ∙ ap (read ps) (drop-drop (length (bytes w)) at l)
 
   pub read-no-word : (w : String) → starts (bytes w) (drop at l) ≡ false → read (word w ∷ ps) (drop at l) ≡ none
   read-no-word w e = read-after w ps (drop at l) none (past-starts (bytes w) (drop at l) ∙ rw e)
 
   -- a number
-  read-count : (v n : ℕ) → number-at l at ≡ Is v n → read (count ∷ ps) (drop at l) ≡ and-then (pos v) (read ps (drop n l))
+  read-count : (v n : ℕ) → number-at l at ≡ Is v n →
+      read (count ∷ ps) (drop at l) ≡ and-then (pos v) (read ps (drop n l))
   unfolding read number-at
   read-count v n e = by-test (in-form (drop at l))
       (λ f.
@@ -52,7 +55,7 @@ module _ (l : List ℕ) (at : ℕ) (ps : List Piece) where
         let a : value (digit-count bs) 0 bs ≡ v = cc in
         let b : at + digit-count bs ≡ n = cc in
         rw (f, drop-drop (digit-count bs) at l, a, b))
-      (λ f. let g : Bad ≡ Is v n = rw f at e in let z : _≡_ {A = ℕ} 0 1 = cc in absurd (omega arith))
+      (λ f. no-number (rw f at e))
 
   read-no-count : number-at l at ≡ Bad → read (count ∷ ps) (drop at l) ≡ none
   unfolding read number-at
@@ -75,9 +78,6 @@ unfolding read
 read-signed ps bs none e = rw (e, read)
 read-signed ps bs (some r) e = rw (e, read)
 
-never : {P : Type 0} {v n : ℕ} → Bad ≡ Is v n → P
-never {P} {v} {n} e = let z : _≡_ {A = ℕ} 0 1 = cc in absurd (omega arith)
-
 module _ (l : List ℕ) (at : ℕ) (ps : List Piece) where
   minus-one : starts (bytes "-1") (drop at l) ≡ true →
       read (production ∷ ps) (drop at l) ≡ and-then (negsuc 0) (read ps (drop (at + 2) l))
@@ -86,7 +86,8 @@ module _ (l : List ℕ) (at : ℕ) (ps : List Piece) where
       read-signed ps (drop at l) (some (drop 2 (drop at l))) (past-starts (bytes "-1") (drop at l) ∙ rw e)
       ∙ ap (λ (x : List ℕ). and-then (negsuc 0) (read ps x)) (drop-drop 2 at l)
 
-  no-minus : starts (bytes "-1") (drop at l) ≡ false → read (production ∷ ps) (drop at l) ≡ read (count ∷ ps) (drop at l)
+  no-minus : starts (bytes "-1") (drop at l) ≡ false →
+      read (production ∷ ps) (drop at l) ≡ read (count ∷ ps) (drop at l)
   no-minus e = read-signed ps (drop at l) none (past-starts (bytes "-1") (drop at l) ∙ rw e)
 
   read-production : (c n : ℕ) → production-at l at ≡ Is c n →
@@ -106,16 +107,16 @@ module _ (l : List ℕ) (at : ℕ) (ps : List Piece) where
           let a : suc v ≡ c = cc in
           let b : m ≡ n = cc in
           read-count l at ps v m p ∙ rw (← a, ← b)
-      coded Bad p q = never q
+      coded Bad p q = no-number q
 
   read-no-production : production-at l at ≡ Bad → read (production ∷ ps) (drop at l) ≡ none
   unfolding production-at
   read-no-production e = by-test (starts (bytes "-1") (drop at l))
-      (λ f. let g : Is 0 (at + 2) ≡ Bad = rw f at e in never (sym g))
+      (λ f. let g : Is 0 (at + 2) ≡ Bad = rw f at e in no-number (sym g))
       (λ f. no-minus f ∙ coded (number-at l at) refl (rw f at e))
     where
       coded : (x : Number) → number-at l at ≡ x → as-code x ≡ Bad → read (count ∷ ps) (drop at l) ≡ none
-      coded (Is v m) p q = never (sym q)
+      coded (Is v m) p q = no-number (sym q)
       coded Bad p q = read-no-count l at ps p
 
 -- a word and what follows it
@@ -125,7 +126,7 @@ module _ (l : List ℕ) (at : ℕ) (ps : List Piece) (w : String) where
   unfolding field-at
   read-field v n e = by-test (starts (bytes w) (drop at l))
       (λ f. read-word l at (count ∷ ps) w f ∙ read-count l (at + length (bytes w)) ps v n (rw f at e))
-      (λ f. never (rw f at e))
+      (λ f. no-number (rw f at e))
 
   pub read-no-field : field-at l at (bytes w) ≡ Bad → read (word w ∷ count ∷ ps) (drop at l) ≡ none
   unfolding field-at
@@ -138,7 +139,7 @@ module _ (l : List ℕ) (at : ℕ) (ps : List Piece) (w : String) where
   unfolding last-at
   read-last c n e = by-test (starts (bytes w) (drop at l))
       (λ f. read-word l at (production ∷ ps) w f ∙ read-production l (at + length (bytes w)) ps c n (rw f at e))
-      (λ f. never (rw f at e))
+      (λ f. no-number (rw f at e))
 
   pub read-no-last : last-at l at (bytes w) ≡ Bad → read (word w ∷ production ∷ ps) (drop at l) ≡ none
   unfolding last-at

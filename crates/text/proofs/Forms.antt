@@ -1,8 +1,8 @@
 -- Numbers and productions in form, at a place of a line. Assumes nothing.
-use mathlib.Core.Path.{_≡_, refl, ap, sym, _∙_}
-use mathlib.Core.Bool.{Bool, true, false, not, _&&_, _||_, cond}
+use Prim.Native.Nat.{ℕ, suc, _+_, _-_, _<_, _≤_}
+use mathlib.Core.Path.{_≡_, refl, ap, _∙_}
+use mathlib.Core.Bool.{true, false, _&&_}
 use mathlib.Core.List.{List, [], _∷_}
-use Prim.Native.Nat.{ℕ, zero, suc, _+_, _-_, _<_, _≤_}
 use native.Mathlib.Omega.{arith}
 use native.Mathlib.Nat.{le-refl, add-zero}
 use native.Mathlib.Numerals.{add-one}
@@ -16,6 +16,7 @@ use Rattle.rows.proofs.Rest.{by-test, both}
 use Rattle.text.specs.declared.pieces.Number.{Number}
 use Rattle.text.specs.declared.pieces.Number.the-variants.{Is, Bad}
 use Rattle.text.specs.Pieces.{starts, number-at, as-code, production-at, field-at, last-at, ends-at}
+use Rattle.text.proofs.Never.{no-number}
 use Rattle.text.proofs.Numbers.{value-small}
 use Rattle.text.proofs.Starts.{starts-within}
 
@@ -83,7 +84,7 @@ number-within l at v n h e = by-test (in-form (drop at l))
         small = omega (arith, value-small (digit-count bs) bs (le-refl _) (in-digits bs f));
         inside = omega (arith, few-digits bs, length-drop at l);
       })
-    (λ f. let g : Bad ≡ Is v n = rw f at e in let z : _≡_ {A = ℕ} 0 1 = cc in absurd (omega arith))
+    (λ f. no-number (rw f at e))
 
 module _ (l : List ℕ) (at : ℕ) where
   pub production-none : starts (45 ∷ 49 ∷ []) (drop at l) ≡ true → Is 0 (at + 2) ≡ production-at l at
@@ -124,9 +125,6 @@ module _ (l : List ℕ) (at : ℕ) where
     unfolding ends-at
     ends-so e = rw e
 
-never : {P : Type 0} {v n : ℕ} → Bad ≡ Is v n → P
-never {P} {v} {n} e = let z : _≡_ {A = ℕ} 0 1 = cc in absurd (omega arith)
-
 pub production-within : (l : List ℕ) (at v n : ℕ) → at ≤ length l → production-at l at ≡ Is v n → Within l v n 100001
 unfolding production-at bytes
 production-within l at v n h e = by-test (starts (45 ∷ 49 ∷ []) (drop at l))
@@ -143,17 +141,17 @@ production-within l at v n h e = by-test (starts (45 ∷ 49 ∷ []) (drop at l))
         let a : suc u ≡ v = cc in
         let b : m ≡ n = cc in
         record { small = omega (arith, w .small); inside = omega (arith, w .inside) }
-    code-within Bad p q = never q
+    code-within Bad p q = no-number q
 
 module _ (l : List ℕ) (at : ℕ) (w : List ℕ) (v n : ℕ) (h : at ≤ length l) where
   pub field-within : field-at l at w ≡ Is v n → Within l v n 100000
   unfolding field-at
   field-within e = by-test (starts w (drop at l))
       (λ f. number-within l (at + length w) v n (starts-within w l at h f) (rw f at e))
-      (λ f. never (rw f at e))
+      (λ f. no-number (rw f at e))
 
   pub last-within : last-at l at w ≡ Is v n → Within l v n 100001
   unfolding last-at
   last-within e = by-test (starts w (drop at l))
       (λ f. production-within l (at + length w) v n (starts-within w l at h f) (rw f at e))
-      (λ f. never (rw f at e))
+      (λ f. no-number (rw f at e))

@@ -1,9 +1,10 @@
 -- Reading what was written gives the same table. Assumes nothing.
-use mathlib.Core.Path.{_≡_, refl, ap, sym, subst, _∙_}
-use mathlib.Core.Bool.{Bool, true, false, not, _&&_, _||_, cond}
-use mathlib.Core.Option.{Option, none, some}
-use mathlib.Core.List.{List, [], _∷_, _++_}
+-- bytes without an LF
 use Prim.Native.Nat.{ℕ, zero, suc, _+_, _*_, _%_, _/_, _<_, _≤_}
+use mathlib.Core.Path.{_≡_, refl, ap, subst, _∙_}
+use mathlib.Core.Bool.{true, false, not, _||_}
+use mathlib.Core.Option.{some}
+use mathlib.Core.List.{List, [], _∷_, _++_}
 use native.Mathlib.Omega.{arith}
 use native.Mathlib.Nat.{div-add-mod'}
 use borrow.Author.Tests.{ne-eqb, le-ltb, eqb-true, not-false}
@@ -11,26 +12,24 @@ use lib.Dec.{eqb, ltb}
 use lib.ListN.{length}
 use lib.IntN.{ℤ, pos, negsuc}
 use Rattle.paper.specs.Words.{bytes}
-use Rattle.paper.specs.Rows.{Row, Table, table, rows-in, natural, accepting, signed}
-use Rattle.paper.specs.Answers.{Ruling, accept, refuse, then}
-use Rattle.paper.specs.Checks.{first, every, row-fits, plain, range, order, little-room, row-slice}
-use Rattle.paper.specs.Text.{Line, longer, lines, Piece, word, count, production, digits, decimal, read, write, read-line, read-rows, read-lines, row-form,
-  head-form, row-lines, text, text-in, text-out}
+use Rattle.paper.specs.Rows.{Row, table, rows-in, natural, accepting, signed}
+use Rattle.paper.specs.Answers.{accept}
+use Rattle.paper.specs.Checks.{every, row-fits, range, order, little-room, row-slice}
+use Rattle.paper.specs.Text.{Line, longer, lines, Piece, word, count, production, digits, decimal, read, write,
+  read-rows, read-lines, row-form, head-form, row-lines, text, text-in, text-out}
 use Rattle.laws.proofs.Every.{neither}
 use Rattle.rows.specs.Places.{code}
 use Rattle.rows.proofs.Rest.{both, length-rows}
 use Rattle.rows.proofs.Fits.{Fit, fit}
-use Rattle.text.specs.Written.{row-numbers}
 use Rattle.text.proofs.Numbers.{digit-of}
 use Rattle.text.proofs.Decimal.{Digits, are-digits}
-use Rattle.text.proofs.Kept.{row-kept, production-kept}
+use Rattle.text.proofs.Kept.{row-kept}
 use Rattle.text.proofs.Tallied.{signed-back}
 use Rattle.text.proofs.Out.{Ranged, in-range, in-slice}
 use Rattle.text.proofs.Parted.{line-read}
 use Rattle.text.proofs.Reread.{reread-head, reread-row}
 use Rattle.text.proofs.Back.{passes}
 
--- bytes without an LF
 abbrev Unbroken : List ℕ → Type 0
 Unbroken [] = Unit
 Unbroken (b ∷ bs) = (eqb b 10 ≡ false) × Unbroken bs
@@ -65,14 +64,17 @@ unfolding write
 unbroken-write [] ns h = tt
 unbroken-write (word w ∷ ps) ns h = unbroken-both (bytes w) (write ps ns) (h .0) (unbroken-write ps ns (h .1))
 unbroken-write (count ∷ ps) [] h = tt
-unbroken-write (count ∷ ps) (n ∷ ns) h = unbroken-both (decimal n) (write ps ns) (unbroken-decimal n) (unbroken-write ps ns h)
+unbroken-write (count ∷ ps) (n ∷ ns) h =
+    unbroken-both (decimal n) (write ps ns) (unbroken-decimal n) (unbroken-write ps ns h)
 unbroken-write (production ∷ ps) [] h = tt
 unbroken-write (production ∷ ps) (n ∷ ns) h =
     unbroken-both (decimal n) (write ps ns) (unbroken-decimal n) (unbroken-write ps ns h)
 
 row-words : Words row-form
 unfolding row-form bytes
-row-words = ((refl, (refl, (refl, (refl, (refl, (refl, tt)))))), ((refl, (refl, tt)), ((refl, (refl, tt)), ((refl, (refl, tt)), ((refl, (refl, tt)), tt)))))
+row-words =
+    ((refl, (refl, (refl, (refl, (refl, (refl, tt)))))),
+      ((refl, (refl, tt)), ((refl, (refl, tt)), ((refl, (refl, tt)), ((refl, (refl, tt)), tt)))))
 
 head-words : Words head-form
 unfolding head-form bytes

@@ -1,9 +1,10 @@
 -- Rows that were read have four numbers each. Assumes nothing.
-use mathlib.Core.Path.{_≡_, refl, ap, sym, _∙_}
+-- the numbers of a line, and of an answer
+use Prim.Native.Nat.{ℕ, suc, _+_, _*_}
+use mathlib.Core.Path.{_≡_, refl}
 use mathlib.Core.Bool.{Bool, true, false, cond}
 use mathlib.Core.Option.{Option, none, some}
 use mathlib.Core.List.{List, [], _∷_, _++_}
-use Prim.Native.Nat.{ℕ, zero, suc, _+_, _*_}
 use native.Mathlib.Omega.{arith}
 use lib.ListN.{length, drop, length-append}
 use lib.IntN.{ℤ}
@@ -15,7 +16,6 @@ use Rattle.text.specs.Reading.{row-of}
 use Rattle.text.specs.Tally.{rows-read, numbers-from}
 use Rattle.text.proofs.Told.{row-told, row-is-read}
 
--- the numbers of a line, and of an answer
 abbrev sized : Option (List ℤ) → Type 0
 sized (some ns) = length ns ≡ 4
 sized none = Unit

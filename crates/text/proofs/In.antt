@@ -1,20 +1,21 @@
 -- What text in answers, check by check. Assumes nothing.
+-- a refusal
+use Prim.Native.Nat.{ℕ, _*_, _<_, _≤_}
 use mathlib.Core.Path.{_≡_, refl, ap, sym, _∙_}
-use mathlib.Core.Bool.{Bool, true, false, not, _&&_, _||_, cond}
-use mathlib.Core.List.{List, [], _∷_, _++_}
-use Prim.Native.Nat.{ℕ, _+_, _*_, _<_, _≤_}
+use mathlib.Core.Bool.{true, false, not, _&&_}
+use mathlib.Core.List.{List, [], _∷_}
 use native.Mathlib.Omega.{arith}
 use borrow.Author.Tests.{lt-ltb, le-ltb, leb-true}
 use lib.Dec.{ltb, leb}
 use lib.ListN.{length, drop}
-use lib.IntN.{ℤ, pos}
-use Rattle.paper.specs.Rows.{Row, Table, table, rows-in, numbers, accepting, signed}
+use lib.IntN.{ℤ}
+use Rattle.paper.specs.Rows.{Table, table, rows-in, numbers, accepting, signed}
 use Rattle.paper.specs.Answers.{Ruling, accept, refuse, then, Reads, number, detail}
 use Rattle.paper.specs.Checks.{first, every, row-fits, rising, production-fits, little-room, plain, range, order}
 use Rattle.paper.specs.Text.{lines, read-lines, text-in}
 use Rattle.paper.specs.declared.Refusal.{Refusal}
 use Rattle.paper.specs.declared.Reading.the-variants.{Read, Refused}
-use Rattle.rows.specs.Places.{code, uncoded}
+use Rattle.rows.specs.Places.{uncoded}
 use Rattle.rows.proofs.Rest.{both, length-rows}
 use Rattle.rows.proofs.Fits.{code-fits}
 use Rattle.text.specs.declared.reading.HeadLine.the-variants as head-line
@@ -22,6 +23,7 @@ use Rattle.text.specs.declared.passes.Tally.{Tally}
 use Rattle.text.specs.Reading.{head-from}
 use Rattle.text.specs.Tally.{rows-read, taken, numbers-from, tally, tally-from, start, Ready}
 use Rattle.text.specs.Put.{put}
+use Rattle.text.proofs.Never.{refuse-accept}
 use Rattle.text.proofs.Put.{put-front}
 use Rattle.text.proofs.Kept.{numbers-kept}
 use Rattle.text.proofs.Fours.{fours}
@@ -30,7 +32,6 @@ use Rattle.text.proofs.Tallied.{signed-back}
 use Rattle.text.proofs.Climbs.{tally-rows, tally-fits, tally-rising}
 use Rattle.text.proofs.Parted.{head-rows, head-bad}
 
--- a refusal
 pub refused : {ruling : Ruling Table} {old : List ℤ} (r : Refusal) → ruling ≡ refuse (number r) (detail r) →
     Reads ruling (Refused r) old old
 refused r e = record { says = rw e; holds = rw e }
@@ -65,7 +66,7 @@ module _ (t : List ℕ) (room : ℕ) where
         where
           go : (r : Ruling (List ℤ)) → then r (λ ns. accept (tally start (rows-in ns))) ≡ refuse 13 (at ∷ []) →
               then (then r (λ ns. accept (of ns))) judged ≡ refuse 13 (at ∷ [])
-          go (accept ns) q = let z : _≡_ {A = ℕ} 0 1 = cc in absurd (omega arith)
+          go (accept ns) q = refuse-accept (sym q)
           go (refuse m d) q = let a : m ≡ 13 = cc in let b : d ≡ at ∷ [] = cc in rw (a, b)
 
       module _ (s : Tally) (e : tally-from t n start ≡ accept s) where
@@ -73,12 +74,13 @@ module _ (t : List ℕ) (room : ℕ) where
         unfolding tally-from numbers-from
         read-all = go (rows-read t n) refl e
           where
-            go : (r : Ruling (List ℤ)) → rows-read t n ≡ r → then r (λ ns. accept (tally start (rows-in ns))) ≡ accept s →
+            go : (r : Ruling (List ℤ)) → rows-read t n ≡ r →
+                then r (λ ns. accept (tally start (rows-in ns))) ≡ accept s →
                 (rows-read t n ≡ accept (taken (rows-read t n))) × (s ≡ tally start (rows-in (taken (rows-read t n))))
             go (accept ns) q w = let a : s ≡ tally start (rows-in ns) = cc in
                 (q ∙ ap (λ (x : Ruling (List ℤ)). accept (taken x)) (sym q),
                   a ∙ ap (λ (x : Ruling (List ℤ)). tally start (rows-in (taken x))) (sym q))
-            go (refuse m d) q w = let z : _≡_ {A = ℕ} 0 1 = cc in absurd (omega arith)
+            go (refuse m d) q w = refuse-accept w
 
         -- what the pass has learnt
         pub count : s .rows ≡ length (rows-in (numbers-from t n))
@@ -128,7 +130,8 @@ module _ (t : List ℕ) (room : ℕ) where
             order-is : order (of (numbers-from t n)) ≡ not (s .rising)
             unfolding order
             order-is =
-                ap not (sym (ap (λ (x : Tally). x .rising) (read-all .1) ∙ tally-rising (rows-in (numbers-from t n)) all-fit))
+                ap not (sym (ap (λ (x : Tally). x .rising) (read-all .1) ∙ tally-rising
+                  (rows-in (numbers-from t n)) all-fit))
 
             pub in-order : s .rising ≡ false → text-in t room ≡ refuse 3 []
             in-order r =

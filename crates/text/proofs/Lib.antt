@@ -6,6 +6,7 @@ pub mod Kept
 pub mod Out
 pub mod Numbers
 pub mod Starts
+pub mod Never
 pub mod Forms
 pub mod Rowed
 pub mod Ended

@@ -1,11 +1,11 @@
 -- The lines of a table's rows, as a loop writes them one after another. Assumes nothing.
+use Prim.Native.Nat.{ℕ, zero, suc, _+_, _-_, _*_, _<_, _≤_}
 use mathlib.Core.Path.{_≡_, refl, ap, sym, _∙_}
 use mathlib.Core.Option.{Option, none, some}
-use mathlib.Core.List.{List, [], _∷_, _++_}
-use Prim.Native.Nat.{ℕ, zero, suc, _+_, _-_, _*_, _<_, _≤_}
+use mathlib.Core.List.{List, [], _++_}
 use native.Mathlib.Omega.{arith}
 use lib.ListN.{length, length-append}
-use lib.IntN.{ℤ, pos}
+use lib.IntN.{ℤ}
 use Rattle.paper.specs.Rows.{Row}
 use Rattle.rows.specs.Places.{code, uncoded, row-at, rest}
 use Rattle.rows.proofs.Rest.{rest-cons, rest-end}

@@ -1,39 +1,39 @@
 -- What text out answers, check by check. Assumes nothing.
-use mathlib.Core.Path.{_≡_, refl, ap, sym, subst, _∙_}
-use mathlib.Core.Bool.{Bool, true, false, not, _&&_, _||_, cond}
+-- a refusal, and what was written
+use Prim.Native.Nat.{ℕ, _+_, _%_, _<_, _≤_}
+use mathlib.Core.Path.{_≡_, ap, sym, subst, _∙_}
+use mathlib.Core.Bool.{Bool, true, false, not, _&&_}
 use mathlib.Core.List.{List, [], _∷_, _++_, append-assoc}
-use Prim.Native.Nat.{ℕ, _+_, _*_, _%_, _<_, _≤_}
 use native.Mathlib.Omega.{arith}
 use borrow.Author.Tests.{lt-ltb, le-ltb, ltb-false, leb-true, not-false}
 use lib.Dec.{eqb, ltb, leb}
-use lib.ListN.{length, drop}
+use lib.ListN.{length}
 use lib.IntN.{ℤ, pos}
 use mir.Syntax.{w32}
 use mir.Val.{SFits, toZ, ofZ}
 use mir.Facts.{toZ-ofZ}
-use Rattle.paper.specs.Rows.{Row, table, rows-in, accepting, signed}
+use Rattle.paper.specs.Rows.{table, rows-in, accepting, signed}
 use Rattle.paper.specs.Answers.{Ruling, accept, refuse, Writes, number, detail}
 use Rattle.paper.specs.Checks.{every, row-fits, row-slice, production-fits, range, order}
-use Rattle.paper.specs.Text.{text, text-out, write, head-form, row-lines}
+use Rattle.paper.specs.Text.{text, text-out, write, head-form}
 use Rattle.paper.specs.declared.Refusal.{Refusal}
 use Rattle.paper.specs.declared.Writing.the-variants.{Wrote, Refused}
 use Rattle.laws.proofs.Every.{neither}
 use Rattle.rows.specs.Places.{Reads, code, uncoded, bare}
 use Rattle.rows.proofs.Rest.{both}
 use Rattle.rows.proofs.Fits.{code-fits}
-use Rattle.text.specs.Put.{put, Puts}
+use Rattle.text.specs.Put.{Puts}
 use Rattle.text.specs.Written.{head-text, rows-text}
 use Rattle.text.proofs.Put.{put-front}
-use Rattle.text.proofs.Written.{puts-on, puts-as}
 use Rattle.text.proofs.Lined.{uncode}
 use Rattle.text.proofs.Kept.{production-kept, lines-kept}
 
--- a refusal, and what was written
 module _ {ruling : Ruling (List ℕ)} {old : List ℕ} where
   pub refused : (r : Refusal) → ruling ≡ refuse (number r) (detail r) → Writes ruling (Refused r) old old
   refused r e = record { says = rw e; holds = rw e }
 
-  pub written : {t new : List ℕ} {n room : ℕ} → ruling ≡ accept t → Puts old 0 room t new n → Writes ruling (Wrote n) old new
+  pub written : {t new : List ℕ} {n room : ℕ} → ruling ≡ accept t → Puts old 0 room t new n →
+      Writes ruling (Wrote n) old new
   written {t} {new} {n} e p = record {
     says = let m : n ≡ length t = omega (arith, p .place) in rw (e, m);
     holds = rw e (p .holds ∙ put-front old t);

@@ -1,9 +1,10 @@
 -- The lines of a text, one after another from a place on. Assumes nothing.
+-- a line's end, and a byte before it
+use Prim.Native.Nat.{ℕ, suc, _+_, _-_, _<_, _≤_}
 use mathlib.Core.Path.{_≡_, refl, ap, sym, _∙_}
 use mathlib.Core.Bool.{Bool, true, false, cond}
-use mathlib.Core.Option.{Option, none, some}
+use mathlib.Core.Option.{none, some}
 use mathlib.Core.List.{List, [], _∷_, _++_}
-use Prim.Native.Nat.{ℕ, zero, suc, _+_, _-_, _<_, _≤_}
 use native.Mathlib.Omega.{arith}
 use borrow.Author.Tests.{lt-ltb, le-ltb, ltb-true, ltb-false}
 use lib.Dec.{eqb, ltb, leb·suc-suc}
@@ -12,20 +13,17 @@ use lib.ListN.{length, getD, drop, length-drop, drop-of-length-le}
 use lib.Seq.{drop-drop}
 use Rattle.paper.specs.Rows.{Table, table, natural, signed}
 use Rattle.paper.specs.Answers.{Ruling, accept, refuse, then}
-use Rattle.paper.specs.Text.{Line, longer, lines, Piece, read, read-line, read-rows, read-lines, row-form,
-  head-form}
+use Rattle.paper.specs.Text.{Line, longer, lines, Piece, read, read-line, read-rows, read-lines, row-form, head-form}
 use Rattle.rows.specs.Places.{uncoded}
 use Rattle.rows.proofs.Rest.{by-test}
-use Rattle.text.specs.declared.reading.RowLine.{RowLine}
 use Rattle.text.specs.declared.reading.RowLine.the-variants as row-line
 use Rattle.text.specs.declared.reading.HeadLine.the-variants as head-line
-use Rattle.text.specs.Reading.{front, line-end, row-of, row-from, head-from}
+use Rattle.text.specs.Reading.{front, line-end, row-from, head-from}
 use Rattle.text.specs.Written.{row, row-numbers}
 use Rattle.text.specs.Tally.{rows-read}
 use Rattle.text.proofs.Told.{row-told, row-is-read, head-told, head-is-read}
-use Rattle.text.proofs.Small.{HeadAt, head-from-at}
+use Rattle.text.proofs.Small.{head-from-at}
 
--- a line's end, and a byte before it
 lines-end : (b : ℕ) (bs : List ℕ) → eqb b 10 ≡ true → lines (b ∷ bs) ≡ record { bytes = []; ended = true } ∷ lines bs
 unfolding lines
 lines-end b bs e = rw e
@@ -97,7 +95,8 @@ module _ (t : List ℕ) (at : ℕ) where
       lines-first bs (omega (arith, length-drop at t)) ∙ rw (e, d)
 
 -- a line in form, or not
-pub line-read : (form : List Piece) (at : ℕ) (l : Line) (ns : List ℤ) → cond (l .ended) (read form (l .bytes)) none ≡ some ns →
+pub line-read : (form : List Piece) (at : ℕ) (l : Line) (ns : List ℤ) →
+    cond (l .ended) (read form (l .bytes)) none ≡ some ns →
     read-line form at l ≡ accept ns
 unfolding read-line
 line-read form at l ns e = rw (e, read-line)
@@ -168,5 +167,6 @@ module _ (t : List ℕ) where
 
   pub head-bad : head-from t 0 ≡ head-line.Bad → read-lines (lines t) ≡ refuse 13 (0 ∷ [])
   head-bad e = by-test (ltb 0 (length t))
-      (λ h. head-here (ltb-true 0 (length t) h) ∙ rw (line-unread head-form 0 (line-at t 0) (head-read ∙ ap head-told e)))
+      (λ h. head-here (ltb-true 0 (length t) h) ∙ rw
+        (line-unread head-form 0 (line-at t 0) (head-read ∙ ap head-told e)))
       (λ h. no-line t (ltb-false 0 (length t) h))

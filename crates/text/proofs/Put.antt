@@ -1,11 +1,12 @@
 -- Laws of writing into a list from a place on. Assumes nothing.
-use mathlib.Core.Path.{_≡_, refl, ap, sym, _∙_}
+use Prim.Native.Nat.{ℕ, suc, _+_, _-_, _<_, _≤_}
+use mathlib.Core.Path.{_≡_, ap, sym, _∙_}
 use mathlib.Core.List.{List, [], _∷_, _++_, append-assoc}
-use Prim.Native.Nat.{ℕ, zero, suc, _+_, _-_, _<_, _≤_}
 use native.Mathlib.Omega.{arith}
 use native.Mathlib.Nat.{add-zero, zero-add}
 use lib.ListN.{length, take, drop, set, length-append, length-drop, take-append-drop}
-use lib.Seq.{take-at, drop-at, drop-append-add, drop-drop, length-take-le, take-length, take-set-le, paste, set-split, sets-eq}
+use lib.Seq.{take-at, drop-at, drop-append-add, drop-drop, length-take-le, take-length, take-set-le, paste,
+  set-split, sets-eq}
 use Rattle.text.specs.Put.{put}
 
 module _ {A : Type 0} (l : List A) (at : ℕ) where
@@ -16,11 +17,6 @@ module _ {A : Type 0} (l : List A) (at : ℕ) where
   pub put-pasted : (s : List A) (n : ℕ) → n ≡ length s → paste l at s n ≡ put l at s
   unfolding put
   put-pasted s n e = rw (e, take-length s, append-assoc)
-
-  -- one element
-  pub put-set : (a : A) → at < length l → set l at a ≡ put l at (a ∷ [])
-  unfolding put
-  put-set a h = let e : at + 1 ≡ suc at = omega arith in rw e (set-split l at a h)
 
   module _ (a : List A) (h : at + length a ≤ length l) where
     filled : length (take at l ++ a) ≡ at + length a
@@ -40,7 +36,8 @@ module _ {A : Type 0} (l : List A) (at : ℕ) where
         let d = drop (at + length a) l in
         let n : at + length a + length b ≡ at + length (a ++ b) = omega (arith, length-append a b) in
         let t : take (at + length a) (take at l ++ (a ++ d)) ≡ take at l ++ a =
-            ap (take (at + length a)) (sym (append-assoc (take at l) a d)) ∙ take-at (take at l ++ a) d (at + length a) filled in
+            ap (take (at + length a)) (sym (append-assoc (take at l) a d))
+            ∙ take-at (take at l ++ a) d (at + length a) filled in
         let r : drop (at + length a + length b) (take at l ++ (a ++ d)) ≡ drop (at + length (a ++ b)) l =
             ap (drop (at + length a + length b)) (sym (append-assoc (take at l) a d))
             ∙ ap (λ (k : ℕ). drop (k + length b) ((take at l ++ a) ++ d)) (sym filled)
@@ -60,9 +57,11 @@ unfolding put
 put-last l at a d h =
     let k = at + length a in
     let s : set l k d ≡ take k l ++ (d ∷ drop (suc k) l) = set-split l k d h in
-    let r : drop k (set l k d) ≡ d ∷ drop (suc k) l = ap (drop k) s ∙ drop-at (take k l) _ k (length-take-le k l (omega arith)) in
+    let r : drop k (set l k d) ≡ d ∷ drop (suc k) l =
+        ap (drop k) s ∙ drop-at (take k l) _ k (length-take-le k l (omega arith)) in
     let n : at + length (a ++ (d ∷ [])) ≡ suc k = omega (arith, length-append a (d ∷ [])) in
-    rw (take-set-le at l k d (omega arith), r, n) (ap (λ x. take at l ++ x) (sym (append-assoc a (d ∷ []) (drop (suc k) l))))
+    rw (take-set-le at l k d (omega arith), r, n)
+      (ap (λ x. take at l ++ x) (sym (append-assoc a (d ∷ []) (drop (suc k) l))))
 
 -- four elements, one after another
 pub put-four : {A : Type 0} (l : List A) (at : ℕ) (a b c d : A) → at + 4 ≤ length l →

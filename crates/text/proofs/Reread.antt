@@ -1,24 +1,22 @@
 -- A line that was written is read as its numbers. Assumes nothing.
 use Prim.Native.String.{String}
-use mathlib.Core.Path.{_≡_, refl, ap, sym, _∙_}
-use mathlib.Core.Bool.{Bool, true, false, cond}
-use mathlib.Core.Option.{Option, none, some}
-use mathlib.Core.List.{List, [], _∷_, _++_}
 use Prim.Native.Nat.{ℕ, zero, suc, _+_, _<_, _≤_}
+use mathlib.Core.Path.{_≡_, refl, ap, _∙_}
+use mathlib.Core.Option.{none, some}
+use mathlib.Core.List.{List, [], _∷_, _++_}
 use native.Mathlib.Omega.{arith}
 use borrow.Author.Tests.{eq-eqb, ne-eqb}
-use lib.Dec.{eqb}
-use lib.ListN.{length, getD, drop}
+use lib.ListN.{length}
 use lib.Seq.{drop-append-seam}
 use lib.IntN.{ℤ, pos, negsuc}
 use Rattle.paper.specs.Words.{bytes}
 use Rattle.paper.specs.Rows.{accepting}
-use Rattle.paper.specs.Text.{Piece, word, count, production, past, is-digit, in-form, value, digit-count, digits, decimal, read,
+use Rattle.paper.specs.Text.{Piece, word, count, production, past, is-digit, digit-count, digits, decimal, read,
   write, and-then, row-form, head-form}
 use Rattle.rows.specs.Places.{code}
 use Rattle.text.proofs.Numbers.{digit-of}
-use Rattle.text.proofs.Formed.{after, read-after, signed-after, read-signed}
-use Rattle.text.proofs.Decimal.{Digits, are-digits, own-first, Written, written}
+use Rattle.text.proofs.Formed.{read-after, read-signed}
+use Rattle.text.proofs.Decimal.{Digits, are-digits, own-first, written}
 
 past-own : (w bs : List ℕ) → past w (w ++ bs) ≡ some bs
 unfolding past
@@ -46,7 +44,8 @@ module _ (ps : List Piece) (bs : List ℕ) (e : digit-count bs ≡ 0) where
   no-minus [] k h = absurd (omega arith)
   no-minus (d ∷ ds) k h = let b = digit-of d (k .0) in rw (ne-eqb 45 d (λ q. omega arith))
 
-  reread-production : (z : ℤ) → code (accepting z) ≤ 65536 → read (production ∷ ps) (decimal z ++ bs) ≡ and-then z (read ps bs)
+  reread-production : (z : ℤ) → code (accepting z) ≤ 65536 →
+      read (production ∷ ps) (decimal z ++ bs) ≡ and-then z (read ps bs)
   unfolding decimal bytes
   reread-production (pos n) h =
       let m : n < 100000 = omega arith in

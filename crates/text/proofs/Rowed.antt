@@ -1,8 +1,9 @@
 -- A line's answer, from those of its pieces one after another. Assumes nothing.
-use mathlib.Core.Path.{_≡_, refl, ap, sym, _∙_}
-use mathlib.Core.Bool.{Bool, true, false}
-use mathlib.Core.List.{List, [], _∷_}
+-- the words of lines
 use Prim.Native.Nat.{ℕ}
+use mathlib.Core.Path.{_≡_}
+use mathlib.Core.Bool.{true, false}
+use mathlib.Core.List.{List, [], _∷_}
 use Rattle.paper.specs.Words.{bytes}
 use Rattle.text.specs.declared.pieces.Number.the-variants as number
 use Rattle.text.specs.declared.reading.RowLine.the-variants as row-line
@@ -10,7 +11,6 @@ use Rattle.text.specs.declared.reading.HeadLine.the-variants as head-lin
 use Rattle.text.specs.Pieces.{field-at, last-at, ends-at}
 use Rattle.text.specs.Reading.{row-of, head-of}
 
--- the words of lines
 abbrev pub trans : List ℕ
 trans = 84 ∷ 114 ∷ 97 ∷ 110 ∷ 115 ∷ 40 ∷ []
 

@@ -1,12 +1,12 @@
 -- The numbers and the places that lines in form give. Assumes nothing.
-use mathlib.Core.Path.{_≡_, refl, ap, sym, _∙_}
+-- what holds of a number read, and if there is none, holds of what follows
+use Prim.Native.Nat.{ℕ, _+_, _<_, _≤_}
+use mathlib.Core.Path.{_≡_, refl}
 use mathlib.Core.Bool.{Bool, true, false, cond}
-use mathlib.Core.List.{List, [], _∷_}
-use Prim.Native.Nat.{ℕ, zero, suc, _+_, _<_, _≤_}
+use mathlib.Core.List.{List}
 use native.Mathlib.Omega.{arith}
-use native.Mathlib.Nat.{le-refl}
 use borrow.Author.Tests.{ltb-true}
-use lib.Dec.{eqb, ltb}
+use lib.Dec.{ltb}
 use lib.ListN.{length, drop}
 use Rattle.paper.specs.Words.{bytes}
 use Rattle.rows.proofs.Rest.{by-test}
@@ -18,9 +18,9 @@ use Rattle.text.specs.declared.reading.HeadLine.{HeadLine}
 use Rattle.text.specs.declared.reading.HeadLine.the-variants as head-line
 use Rattle.text.specs.Pieces.{field-at, last-at, ends-at}
 use Rattle.text.specs.Reading.{on-is, row-of, head-of, line-end, row-from, head-from, front}
+use Rattle.text.proofs.Never.{no-row, no-head}
 use Rattle.text.proofs.Forms.{field-within, last-within}
 
--- what holds of a number read, and if there is none, holds of what follows
 on-each : {A : Type 0} (P : A → Type 0) (bad : A) (next : ℕ → ℕ → A) (x : Number) → P bad →
     ((v n : ℕ) → x ≡ number.Is v n → P (next v n)) → P (on-is x bad next)
 on-each P bad next (number.Is v n) b k = k v n refl
@@ -60,9 +60,6 @@ beyond : (t : List ℕ) (at : ℕ) → at ≤ line-end t at
 unfolding line-end
 beyond t at = omega arith
 
-never-row : {P : Type 0} {f t g p n : ℕ} → row-line.Bad ≡ row-line.Row f t g p n → P
-never-row e = let z : _≡_ {A = ℕ} 0 1 = cc in absurd (omega arith)
-
 -- a row from a place on
 pub record RowAt (t : List ℕ) (at f o g c n : ℕ) : Type 0 where
   pub small : Small f o g c n (line-end t at + 1)
@@ -80,7 +77,7 @@ row-from-at t at f o g c n e = by-test (ltb (line-end t at) (length t))
         later = omega (arith, s .place, beyond t at);
         inside = omega (arith, s .place, ltb-true (line-end t at) (length t) h);
       })
-    (λ h. never-row (rw h at e))
+    (λ h. no-row (rw h at e))
 
 pub record HeadAt (t : List ℕ) (p k n : ℕ) : Type 0 where
   pub code : p ≤ 100000
@@ -108,9 +105,6 @@ head-small l next =
       (record { code = omega (arith, h₁ .small); few = h₂ .small; place = refl })
       tt))
 
-never-head : {P : Type 0} {p k n : ℕ} → head-line.Bad ≡ head-line.Head p k n → P
-never-head e = let z : _≡_ {A = ℕ} 0 1 = cc in absurd (omega arith)
-
 pub head-from-at : (t : List ℕ) (p k n : ℕ) → head-from t 0 ≡ head-line.Head p k n → HeadAt t p k n
 unfolding head-from
 head-from-at t p k n e = by-test (ltb (line-end t 0) (length t))
@@ -123,4 +117,4 @@ head-from-at t p k n e = by-test (ltb (line-end t 0) (length t))
         place = s .place;
         inside = omega (arith, s .place, ltb-true (line-end t 0) (length t) h);
       })
-    (λ h. never-head (rw h at e))
+    (λ h. no-head (rw h at e))

@@ -1,19 +1,19 @@
 -- A word at a place of a line. Assumes nothing.
+-- what is left of a word at i, against what is left of a line at k
+use Prim.Native.Nat.{ℕ, suc, _+_, _-_, _<_, _≤_}
 use mathlib.Core.Path.{_≡_, refl, ap, sym, _∙_}
 use mathlib.Core.Bool.{Bool, true, false, cond, true≢false}
 use mathlib.Core.Option.{Option, none, some}
 use mathlib.Core.List.{List, [], _∷_}
-use Prim.Native.Nat.{ℕ, zero, suc, _+_, _-_, _<_, _≤_}
 use native.Mathlib.Omega.{arith}
 use borrow.Author.Tests.{eq-eqb, ne-eqb}
 use lib.Dec.{eqb}
 use lib.ListN.{length, getD, drop, drop-of-length-le, length-drop}
-use lib.Seq.{drop-cons, drop-drop}
+use lib.Seq.{drop-cons}
 use Rattle.paper.specs.Text.{past}
 use Rattle.rows.proofs.Rest.{by-test}
 use Rattle.text.specs.Pieces.{is-some, starts}
 
--- what is left of a word at i, against what is left of a line at k
 module _ (w l : List ℕ) (i k : ℕ) where
   pub word-all : length w ≤ i → past (drop i w) (drop k l) ≡ some (drop k l)
   unfolding past
@@ -25,7 +25,8 @@ module _ (w l : List ℕ) (i k : ℕ) where
     word-short g = rw (drop-cons w i 0 h, drop-of-length-le l g)
 
     module _ (g : k < length l) where
-      word-here : past (drop i w) (drop k l) ≡ cond (eqb (getD w i 0) (getD l k 0)) (past (drop (suc i) w) (drop (suc k) l)) none
+      word-here : past (drop i w) (drop k l) ≡ cond (eqb (getD w i 0) (getD l k 0))
+        (past (drop (suc i) w) (drop (suc k) l)) none
       unfolding past
       word-here = rw (drop-cons w i 0 h, drop-cons l k 0 g)
 

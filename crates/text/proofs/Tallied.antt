@@ -1,22 +1,20 @@
 -- The pass over rows, one line after another. Assumes nothing.
-use mathlib.Core.Path.{_≡_, refl, ap, sym, _∙_}
-use mathlib.Core.Bool.{Bool, true, false, _&&_}
+use Prim.Native.Nat.{ℕ, _+_, _<_, _≤_}
+use mathlib.Core.Path.{_≡_, refl, ap, _∙_}
 use mathlib.Core.Option.{Option, none, some}
 use mathlib.Core.List.{List, [], _∷_, _++_}
-use Prim.Native.Nat.{ℕ, zero, suc, _+_, _<_, _≤_}
-use native.Mathlib.Omega.{arith}
-use lib.IntN.{ℤ, pos}
+use lib.IntN.{ℤ}
 use lib.ListN.{length}
 use Rattle.paper.specs.Rows.{Row, accepting, signed, rows-in}
 use Rattle.paper.specs.Answers.{Ruling, accept, refuse, then}
 use Rattle.rows.specs.Places.{uncoded}
 use Rattle.text.specs.declared.reading.RowLine.the-variants as row-line
 use Rattle.text.specs.declared.passes.Tally.{Tally}
-use Rattle.text.specs.Reading.{line-end, row-from}
+use Rattle.text.specs.Reading.{row-from}
 use Rattle.text.specs.Written.{row, row-numbers}
 use Rattle.text.specs.Tally.{rows-read, tallied, tally, tally-from}
 use Rattle.text.proofs.Parted.{rows-end, rows-bad, rows-row}
-use Rattle.text.proofs.Small.{RowAt, row-from-at}
+use Rattle.text.proofs.Small.{row-from-at}
 
 pub signed-back : (p : Option ℕ) → accepting (signed p) ≡ p
 signed-back none = refl
@@ -33,7 +31,8 @@ module _ (t : List ℕ) (at f o g c n : ℕ) (h : at < length t) (e : row-from t
 
   pub tally-row : (s : Tally) → tally-from t at s ≡ tally-from t n (tallied s (row f o g c))
   unfolding tally-from tally
-  tally-row s = ap (λ (r : Ruling (List ℤ)). then r (λ ns. accept (tally s (rows-in ns)))) rows-cons ∙ go (rows-read t n)
+  tally-row s =
+      ap (λ (r : Ruling (List ℤ)). then r (λ ns. accept (tally s (rows-in ns)))) rows-cons ∙ go (rows-read t n)
     where
       go : (r : Ruling (List ℤ)) →
           then (then r (λ ns. accept (row-numbers (row f o g c) ++ ns))) (λ ns. accept (tally s (rows-in ns)))

@@ -1,10 +1,11 @@
 -- A line's answer is what reading it by its form gives. Assumes nothing.
+-- the numbers of a line's answer
 use Prim.Native.String.{String}
+use Prim.Native.Nat.{ℕ, _≤_}
 use mathlib.Core.Path.{_≡_, refl, ap, sym, _∙_}
-use mathlib.Core.Bool.{Bool, true, false, cond}
+use mathlib.Core.Bool.{cond}
 use mathlib.Core.Option.{Option, none, some}
 use mathlib.Core.List.{List, [], _∷_}
-use Prim.Native.Nat.{ℕ, zero, suc, _+_, _≤_}
 use native.Mathlib.Omega.{arith}
 use lib.IntN.{ℤ, pos}
 use lib.ListN.{length, drop}
@@ -24,7 +25,6 @@ use Rattle.text.specs.Reading.{on-is, row-of, head-of}
 use Rattle.text.proofs.Forms.{field-within, last-within}
 use Rattle.text.proofs.Formed.{read-field, read-no-field, read-last, read-no-last, read-end, read-no-end}
 
--- the numbers of a line's answer
 abbrev pub row-told : RowLine → Option (List ℤ)
 row-told (row-line.Row f t g p n) = some (pos f ∷ pos t ∷ pos g ∷ signed (uncoded p) ∷ [])
 row-told row-line.Bad = none
@@ -70,7 +70,8 @@ row-is-read l next =
     told-field row-told row-line.Bad refl l (λ o. o) refl 0 "Trans(" _ _ (omega arith) (λ f a h.
     told-field row-told row-line.Bad refl l (λ o. and-then (pos f) o) refl a ", " _ _ h (λ t b i.
     told-field row-told row-line.Bad refl l (λ o. and-then (pos f) (and-then (pos t) o)) refl b ", " _ _ i (λ g c j.
-    told-last row-told row-line.Bad refl l (λ o. and-then (pos f) (and-then (pos t) (and-then (pos g) o))) refl c ", " _ _ j
+    told-last row-told row-line.Bad refl l
+      (λ o. and-then (pos f) (and-then (pos t) (and-then (pos g) o))) refl c ", " _ _ j
     (λ p d k.
     told-end row-told row-line.Bad refl l
       (λ o. and-then (pos f) (and-then (pos t) (and-then (pos g) (and-then (signed (uncoded p)) o))))

@@ -1,20 +1,20 @@
 -- The bytes of numbers and lines, as they are written one after another. Assumes nothing.
-use mathlib.Core.Path.{_≡_, refl, ap, sym, _∙_}
+-- a production's bytes by its code
+use Prim.Native.Nat.{ℕ, zero, suc, _+_, _-_, _≤_}
+use mathlib.Core.Path.{_≡_, refl, ap, _∙_}
 use mathlib.Core.List.{List, [], _∷_, _++_, append-assoc}
-use Prim.Native.Nat.{ℕ, zero, suc, _+_, _-_, _*_, _<_, _≤_}
 use native.Mathlib.Omega.{arith}
 use lib.ListN.{length, length-append}
 use lib.IntN.{ℤ, pos, negsuc}
-use Rattle.paper.specs.Rows.{Row, signed}
+use Rattle.paper.specs.Rows.{signed}
 use Rattle.paper.specs.Words.{bytes}
 use Rattle.paper.specs.Text.{digits, decimal, write, head-form, row-form}
 use Rattle.rows.specs.Places.{uncoded}
 use Rattle.text.specs.Put.{put, Puts}
-use Rattle.text.specs.Written.{head-text, row-text, row}
+use Rattle.text.specs.Written.{head-text}
 use Rattle.text.proofs.Put.{put-put, put-length}
 use Rattle.text.proofs.Digits.{width-most}
 
--- a production's bytes by its code
 pub decimal-none : (c : ℕ) → c ≡ 0 → decimal (signed (uncoded c)) ≡ 45 ∷ 49 ∷ []
 unfolding decimal bytes
 decimal-none c e = rw e
@@ -34,7 +34,8 @@ module _ {A : Type 0} {l m a : List A} {at n r : ℕ} (p : Puts l at r a m n) wh
   puts-length h = ap length (p .holds) ∙ put-length l at a (omega arith)
 
   -- what is written on from where a writing ends is one writing
-  pub puts-on : {m′ b : List A} {n′ r′ : ℕ} → at + r ≤ length l → Puts m n r′ b m′ n′ → Puts l at (r + r′) (a ++ b) m′ n′
+  pub puts-on : {m′ b : List A} {n′ r′ : ℕ} → at + r ≤ length l → Puts m n r′ b m′ n′ →
+      Puts l at (r + r′) (a ++ b) m′ n′
   puts-on {m′} {b} {n′} h q = record {
     place = omega (arith, q .place, p .place, length-append a b);
     within = omega arith;

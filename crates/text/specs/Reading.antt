@@ -1,6 +1,7 @@
 -- A text read line by line, each at a place.
-use Prim.Native.Nat.{ℕ, zero, suc, _+_}
-use mathlib.Core.Bool.{Bool, true, false, cond}
+-- What follows a number that was read.
+use Prim.Native.Nat.{ℕ, _+_}
+use mathlib.Core.Bool.{cond}
 use mathlib.Core.List.{List, [], _∷_}
 use lib.ListN.{length, drop}
 use lib.Dec.{eqb, ltb}
@@ -13,7 +14,6 @@ use Rattle.text.specs.declared.reading.HeadLine.{HeadLine}
 use Rattle.text.specs.declared.reading.HeadLine.the-variants as head-line
 use Rattle.text.specs.Pieces.{field-at, last-at, ends-at}
 
--- What follows a number that was read.
 abbrev pub on-is : {A : Type 0} → Number → A → (ℕ → ℕ → A) → A
 on-is (number.Is v n) bad k = k v n
 on-is number.Bad bad k = bad

@@ -1,7 +1,8 @@
 -- The rows of a text, and what one pass over them learns.
+-- The numbers of the rows from a place on.
 use Prim.Native.Nat.{ℕ, _+_, _≤_}
 use mathlib.Core.Path.{_≡_}
-use mathlib.Core.Bool.{Bool, true, false, _&&_}
+use mathlib.Core.Bool.{true, _&&_}
 use mathlib.Core.List.{List, [], _∷_}
 use lib.ListN.{length, drop}
 use lib.IntN.{ℤ}
@@ -15,7 +16,6 @@ use Rattle.text.specs.declared.passes.Tally.{Tally}
 use Rattle.text.specs.declared.passes.Pass.{Pass}
 use Rattle.text.specs.declared.passes.Pass.the-variants.{Rows, Bad}
 
--- The numbers of the rows from a place on.
 unfoldable pub rows-read : List ℕ → ℕ → Ruling (List ℤ)
 rows-read t at = read-rows at (lines (drop at t))
 

@@ -19,7 +19,8 @@ ghost use Rattle.paper.specs.Text.{text-out, text-in};
 
 // Text out: a table's text at the front of the output.
 pub fn text_out(prod0: i32, k: usize, rows: &[i32], out: &mut [u8]) -> Writing
-    ensures { λ r. ⌜ Writes (text-out prod0 k (now (rows .entry)) (length (now (out .entry)))) r (now (out .entry)) (now (out .exit)) ⌝ }
+    ensures { λ r. ⌜ Writes (text-out prod0 k (now (rows .entry)) (length (now (out .entry))))
+      r (now (out .entry)) (now (out .exit)) ⌝ }
 {
     if checks::row_slice(rows) {
         return Writing::Refused(Refusal::Length);
@@ -52,7 +53,8 @@ fn ranged(code: usize, k: usize, fits: bool) -> bool
 
 // Text in: the rows of a text at the front of the output.
 pub fn text_in(text: &[u8], out: &mut [i32]) -> Reading
-    ensures { λ r. ⌜ Reads (text-in (now (text .entry)) (length (now (out .entry)))) r (now (out .entry)) (now (out .exit)) ⌝ }
+    ensures { λ r. ⌜ Reads (text-in (now (text .entry)) (length (now (out .entry))))
+      r (now (out .entry)) (now (out .exit)) ⌝ }
 {
     if out.len() < 16384 {
         return Reading::Refused(Refusal::Length);

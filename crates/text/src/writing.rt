@@ -76,7 +76,8 @@ fn put_production(out: &mut [u8], at: usize, code: usize) -> usize
 // A word and the number after it.
 fn put_field(out: &mut [u8], at: usize, word: &[u8], n: usize) -> usize
     requires { ⌜ (at + (length (now word) + 5) ≤ length (now out)) × (n < 100000) ⌝ }
-    ensures { λ r. ⌜ Puts (now (out .entry)) at (length (now (word .entry)) + 5) (now (word .entry) ++ digits 5 n) (now (out .exit)) r ⌝ }
+    ensures { λ r. ⌜ Puts (now (out .entry)) at (length (now (word .entry)) + 5)
+      (now (word .entry) ++ digits 5 n) (now (out .exit)) r ⌝ }
 {
     let place = put_word(out, at, word);
     put_number(out, place, n)
@@ -109,7 +110,8 @@ fn put_row(out: &mut [u8], at: usize, from: usize, on: usize, to: usize, code: u
 // A line for each row of a table whose rows are within their bounds.
 pub fn put_rows(out: &mut [u8], at: usize, table: &[i32]) -> usize
     requires { ⌜ (at + length (now table) * 9 ≤ length (now out)) × (every row-fits (rows-in (now table)) ≡ true) ⌝ }
-    ensures { λ r. ⌜ Puts (now (out .entry)) at (length (now (table .entry)) * 9) (rows-text (rows-in (now (table .entry)))) (now (out .exit)) r ⌝ }
+    ensures { λ r. ⌜ Puts (now (out .entry)) at (length (now (table .entry)) * 9)
+      (rows-text (rows-in (now (table .entry)))) (now (out .exit)) r ⌝ }
 {
     let n = table.len() / 4;
     let mut place = at;

@@ -1,6 +1,6 @@
 -- One row of the second taken into the rows of an array.
 -- Assumes nothing.
-use mathlib.Core.Path.{_≡_, refl, ap, sym, _∙_}
+use mathlib.Core.Path.{_≡_, refl, ap, sym, _∙_, subst}
 use mathlib.Core.Option.{Option, none, some}
 use mathlib.Core.List.{List, [], _∷_, map}
 use Prim.Native.Nat.{ℕ, zero, suc, _+_, _*_, _/_, _<_, _≤_}
@@ -20,7 +20,8 @@ use Rattle.trees.proofs.Paint.{paint}
 use Rattle.grow.specs.Held.{held, row-held, Laid, next, Adding, Added, Giving, Given}
 use Rattle.grow.proofs.Written.{held-numbers, held-length, held-row}
 use Rattle.grow.proofs.Placed.{room}
-use Rattle.unite.specs.Taking.{taking, Stands, Over, Missed, Hit}
+use Rattle.unite.specs.Taking.{taking, Stands, Over, Takes, Missed, Hit}
+use Rattle.unite.specs.declared.taking.Took.{Took}
 
 pub uncoded-code : (q : Option ℕ) → uncoded (code q) ≡ q
 uncoded-code none = refl
@@ -104,3 +105,8 @@ gives mode buf new n i p q c to e d g a s t = record {
   is = matches-row mode (held buf n) (row-held buf n i) p (uncoded q) e s t (uncoded c) g
     ∙ sym (λ j. accept (record { rows = a .rows j; state = d .0 j }));
 }
+
+-- what came of a row, as another says it
+pub took-as : (new : List ℤ) {g h : Ruling Standing} {x y : Took} → g ≡ h → x ≡ y → Takes new g x → Takes new h y
+took-as new {g} {h} {x} {y} p q t =
+    subst (λ (k : Ruling Standing). Takes new k y) p (subst (λ (z : Took). Takes new g z) q t)

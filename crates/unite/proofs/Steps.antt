@@ -1,7 +1,7 @@
 -- `take-rows` row by row, on rows alone: prod0 and k take no part.
 -- Assumes nothing.
 use mathlib.Core.Path.{_≡_, refl, ap, sym, _∙_, subst}
-use mathlib.Core.Bool.{Bool, cond}
+use mathlib.Core.Bool.{false}
 use mathlib.Core.Option.{Option, none, some}
 use mathlib.Core.List.{List, [], _∷_, _++_, map}
 use Prim.Native.Nat.{ℕ, zero, suc, _<_, _≤_}
@@ -114,7 +114,7 @@ first-row (next nx o) = (nx, o)
 
 -- ---- rows only grow in number
 kept-of : {P : Table → Type 0} {g : Ruling United} (u : United) → Keeps P g → g ≡ accept u → P (u .table)
-kept-of {P} u (kept {v} h) e = let z : v ≡ u = cc in subst (λ (x : United). P (x .table)) z h
+kept-of {P} v (kept {u} h) e = let z : u ≡ v = cc in subst (λ (x : United). P (x .table)) z h
 kept-of u off e = absurd (let z : _≡_ {A = ℕ} 0 1 = cc in omega arith)
 
 pub many-stay : (mode : Mode) (n : ℕ) (u v : United) (rest : List Row) → n ≤ length (u .table .rows)

@@ -6,66 +6,58 @@ use Rattle.explain.proofs.Stretches.{lies-at-end, stretch-length, stret
 use borrow.Author.Needs.{needs}
 use Rattle.explain.proofs.place.Statement.{statement}
 use Rattle.explain.proofs.place.Tie as tie
-use Rattle.explain.proofs.place.Reads as reads
-use Rattle.explain.proofs.place.Lts as lts
-use Rattle.explain.proofs.left_rows.Reads as left-rows-reads
-use Rattle.explain.proofs.walked.Reads as walked-reads
-use Rattle.rows.proofs.checks.row_slice.Reads as row-slice-reads
-use Rattle.rows.proofs.verdict.plain.Reads as plain-reads
 
--- src/lib.rt:104:8
 row-slice-requires : tie.Need-row-slice-requires
 row-slice-requires c κs = search needs
 
--- src/lib.rt:105:9
 returns : tie.Need-returns
 returns c =
     let s = c .before .before .before in
-    lies-at-end (s .args .rows .now) (stretch-length (s .args .prod0) (s .args .k) (s .args .rows .now) (s .args .tokens .now) (sym (c .before .row-slice .ensures) ∙ c .if1 .taken))
+    lies-at-end (s .args .rows .now) (stretch-length (s .args .prod0) (s .args .k) (s .args .rows .now)
+        (s .args .tokens .now) (sym (c .before .row-slice .ensures) ∙ c .if1 .taken))
 
--- src/lib.rt:107:9
 plain-requires : tie.Need-plain-requires
 plain-requires c κs = search needs
 
 enum-told : tie.Need-enum-told
 enum-told c = search needs
 
--- src/lib.rt:109:9
 enum-told-2 : tie.Need-enum-told-2
 enum-told-2 c = search needs
 
--- src/lib.rt:109:9
 returns-2 : tie.Need-returns-2
 returns-2 c =
     let v = c .before .before in
     let i = v .before in
     let s = i .before .before .before in
     let j = rw (c .enum-told2 .given .1) at (rw (same (s .args .prod0) (s .fits .prod0)) at (v .plain .ensures)) in
-    lies-at-end (s .args .rows .now) (stretch-refused (s .args .prod0) (s .args .k) (s .args .rows .now) (s .args .tokens .now) (sym (i .before .row-slice .ensures) ∙ i .if1 .left) _ j)
+    lies-at-end (s .args .rows .now) (stretch-refused (s .args .prod0) (s .args .k) (s .args .rows .now)
+        (s .args .tokens .now) (sym (i .before .row-slice .ensures) ∙ i .if1 .left) _ j)
 
--- src/lib.rt:111:21
 walked-requires : tie.Need-walked-requires
 walked-requires c κs =
     let v = c .before .before in
     let s = v .before .before .before .before in
-    plain-passed (s .args .prod0) (s .args .k) (s .args .rows .now) (rw (c .enum-told .given .1) at (rw (same (s .args .prod0) (s .fits .prod0)) at (v .plain .ensures)))
+    plain-passed (s .args .prod0) (s .args .k) (s .args .rows .now) (rw (c .enum-told .given .1) at (rw (same
+        (s .args .prod0) (s .fits .prod0)) at (v .plain .ensures)))
 
--- src/lib.rt:111:5
 left-rows-requires : tie.Need-left-rows-requires
 left-rows-requires c κs =
     let v = c .before .before .before in
     let s = v .before .before .before .before in
-    plain-passed (s .args .prod0) (s .args .k) (s .args .rows .now) (rw (c .before .enum-told .given .1) at (rw (same (s .args .prod0) (s .fits .prod0)) at (v .plain .ensures)))
+    plain-passed (s .args .prod0) (s .args .k) (s .args .rows .now) (rw (c .before .enum-told .given .1) at (rw
+        (same (s .args .prod0) (s .fits .prod0)) at (v .plain .ensures)))
 
--- src/lib.rt:100:1
 returns-3 : tie.Need-returns-3
 returns-3 c =
     let w = c .before in
     let v = w .before .before .before in
     let i = v .before in
     let s = i .before .before .before in
-    let j = rw (w .before .enum-told .given .1) at (rw (same (s .args .prod0) (s .fits .prod0)) at (v .plain .ensures)) in
-    rw (sym (stretch-passed (s .args .prod0) (s .args .k) (s .args .rows .now) (s .args .tokens .now) (sym (i .before .row-slice .ensures) ∙ i .if1 .left) (stopped (w .walked .result)) j (w .walked .ensures)))
+    let j = rw (w .before .enum-told .given .1) at (rw (same (s .args .prod0) (s .fits .prod0)) at
+        (v .plain .ensures)) in
+    rw (sym (stretch-passed (s .args .prod0) (s .args .k) (s .args .rows .now) (s .args .tokens .now) (sym
+        (i .before .row-slice .ensures) ∙ i .if1 .left) (stopped (w .walked .result)) j (w .walked .ensures)))
     (c .left-rows .ensures)
 
 pub place-spec : {M : Type 1} → statement M

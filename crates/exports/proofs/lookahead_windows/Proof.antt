@@ -8,10 +8,6 @@ use lib.ListN.{length}
 use borrow.Author.Needs.{needs}
 use Rattle.exports.proofs.lookahead_windows.Statement.{statement}
 use Rattle.exports.proofs.lookahead_windows.Tie as tie
-use Rattle.exports.proofs.lookahead_windows.Reads as reads
-use Rattle.exports.proofs.lookahead_windows.Lts as lts
-use Rattle.exports.proofs.mode_of.Reads as mode-of-reads
-use Rattle.exports.proofs.window.Reads as window-reads
 
 abbrev Inv-loop : tie.InvT-loop
 Inv-loop mode prod0 k rows tokens answers₀ mode' rest₀ i₀ answers rest i = length answers ≡ length answers₀
@@ -19,74 +15,59 @@ Inv-loop mode prod0 k rows tokens answers₀ mode' rest₀ i₀ answers rest i =
 abbrev μ-loop : tie.MeasureT-loop
 μ-loop mode prod0 k rows tokens answers₀ mode' rest₀ i₀ answers rest i = length answers₀ - i
 
--- src/lib.rt:120:9
 mode-of-requires : tie.Need-mode-of-requires Inv-loop μ-loop
 mode-of-requires c κs = search needs
 
--- src/lib.rt:123:5
 loop-holds : tie.Need-loop-holds Inv-loop μ-loop
 loop-holds c = search needs
 
--- src/lib.rt:125:13
 same-length : tie.Need-same-length Inv-loop μ-loop
 same-length c = search needs
 
--- src/lib.rt:125:13
 returns : tie.Need-returns Inv-loop μ-loop
 returns c = search needs
 
--- src/lib.rt:127:51
 slice-aggregate-window : tie.Need-slice-aggregate-window Inv-loop μ-loop
-slice-aggregate-window c = sym (length-take-le (c .before .before .before .before .before .before .before .args .k) (c .before .before .before .loop .rest .now) (omega arith))
+slice-aggregate-window c = sym (length-take-le
+    (c .before .before .before .before .before .before .before .args .k)
+    (c .before .before .before .loop .rest .now) (omega arith))
 
--- src/lib.rt:127:22
 window-requires : tie.Need-window-requires Inv-loop μ-loop
 window-requires c κs = search needs
 
--- src/lib.rt:127:9
 mul-answers : tie.Need-mul-answers Inv-loop μ-loop
 mul-answers c = search needs
 
--- src/lib.rt:127:9
 slice-write-answers : tie.Need-slice-write-answers Inv-loop μ-loop
 slice-write-answers c = search needs
 
--- src/lib.rt:128:16
 mul-rest : tie.Need-mul-rest Inv-loop μ-loop
 mul-rest c =
     let s = c .before .before .before .before .before .before .before .before in
     let b = plain-bounded (table (s .args .prod0) (s .args .k) (s .args .rows .now)) (s .pre .checked) in
     omega (arith, b .k)
 
--- src/lib.rt:128:16
 sub-rest : tie.Need-sub-rest Inv-loop μ-loop
 sub-rest c = search needs
 
--- src/lib.rt:128:16
 part-rest-start : tie.Need-part-rest-start Inv-loop μ-loop
 part-rest-start c = search needs
 
--- src/lib.rt:128:16
 part-rest-end : tie.Need-part-rest-end Inv-loop μ-loop
 part-rest-end c = search needs
 
--- src/lib.rt:129:9
 add-i : tie.Need-add-i Inv-loop μ-loop
 add-i c = search needs
 
--- src/lib.rt:123:5
 loop-less : tie.Need-loop-less Inv-loop μ-loop
 loop-less c = search needs
 
--- src/lib.rt:123:5
 loop-again : tie.Need-loop-again Inv-loop μ-loop
 loop-again c = search needs
 
--- src/lib.rt:109:1
 same-length-2 : tie.Need-same-length-2 Inv-loop μ-loop
 same-length-2 c = search needs
 
--- src/lib.rt:109:1
 returns-2 : tie.Need-returns-2 Inv-loop μ-loop
 returns-2 c = search needs
 

@@ -8,34 +8,29 @@ use Rattle.predict.proofs.Answering.{answers-last, answers-none}
 use borrow.Author.Needs.{needs}
 use Rattle.predict.proofs.answer.Statement.{statement}
 use Rattle.predict.proofs.answer.Tie as tie
-use Rattle.predict.proofs.answer.Reads as reads
-use Rattle.predict.proofs.answer.Lts as lts
-use Rattle.predict.proofs.fallback.Reads as fallback-reads
 
--- src/lib.rt:129:28
 enum-known-last : tie.Need-enum-known-last
 enum-known-last c = search needs
 
--- src/lib.rt:133:29
 enum-told : tie.Need-enum-told
 enum-told c = search needs
 
--- src/lib.rt:133:29
 fallback-requires : tie.Need-fallback-requires
 fallback-requires c κs = search needs
 
--- src/lib.rt:122:1
 returns : tie.Need-returns
 returns c =
     let s = c .before .before .before in
-    answers-last (s .args .mode) (accepting (s .args .prod0)) (s .args .w .entered) (s .args .w .last) _ (c .before .last .given .1)
+    answers-last (s .args .mode) (accepting (s .args .prod0)) (s .args .w .entered) (s .args .w .last) _
+        (c .before .last .given .1)
 
--- src/lib.rt:122:1
 returns-2 : tie.Need-returns-2
 returns-2 c =
     let s = c .before .before .before in
-    answers-none (s .args .mode) (accepting (s .args .prod0)) (s .args .w .entered) (s .args .w .last) _ (c .before .enum-told .given .1)
-    (c .fallback .ensures ∙ ap (λ (z : ℤ). fallback (s .args .mode) (accepting z) (s .args .w .entered)) (toZ-ofZ {w = w32} (s .fits .prod0)))
+    answers-none (s .args .mode) (accepting (s .args .prod0)) (s .args .w .entered) (s .args .w .last) _
+        (c .before .enum-told .given .1)
+    (c .fallback .ensures ∙ ap (λ (z : ℤ). fallback (s .args .mode) (accepting z) (s .args .w .entered))
+        (toZ-ofZ {w = w32} (s .fits .prod0)))
 
 pub answer-spec : {M : Type 1} → statement M
 answer-spec = tie.close (tie.spec enum-known-last enum-told fallback-requires returns returns-2)

@@ -10,16 +10,11 @@ use Rattle.predict.specs.Seen.{seen, reached}
 use Rattle.predict.proofs.Parts.{chosen-by}
 use Rattle.predict.proofs.chosen.Statement.{statement}
 use Rattle.predict.proofs.chosen.Tie as tie
-use Rattle.predict.proofs.chosen.Reads as reads
-use Rattle.predict.proofs.chosen.Lts as lts
-use Rattle.predict.proofs.answer.Reads as answer-reads
-use Rattle.predict.proofs.walked.Reads as walked-reads
 
--- src/lib.rt:142:26
 slice-aggregate-walked : tie.Need-slice-aggregate-walked
-slice-aggregate-walked c = sym (length-take-le (c .before .before .args .k) (c .before .before .args .tokens .now) (c .before .before .pre .1))
+slice-aggregate-walked c = sym (length-take-le (c .before .before .args .k) (c .before .before .args .tokens .now)
+    (c .before .before .pre .1))
 
--- src/lib.rt:142:9
 walked-requires : tie.Need-walked-requires
 walked-requires c κs =
     let s = c .before .before in
@@ -27,20 +22,20 @@ walked-requires c κs =
     (plain-passed (s .args .prod0) (s .args .k) (s .args .rows .now) (s .pre .0 .checked),
      omega (arith, length-take-le (s .args .k) (s .args .tokens .now) (s .pre .1), b .k))
 
--- src/lib.rt:143:5
 answer-requires : tie.Need-answer-requires
 answer-requires c κs =
     let s = c .before .before .before in
-    rw (same (s .args .prod0) (s .fits .prod0)) (plain-bounded (table (s .args .prod0) (s .args .k) (s .args .rows .now)) (s .pre .0 .checked) .prod0)
+    rw (same (s .args .prod0) (s .fits .prod0)) (plain-bounded (table (s .args .prod0) (s .args .k)
+        (s .args .rows .now)) (s .pre .0 .checked) .prod0)
 
--- src/lib.rt:138:1
 returns : tie.Need-returns
 returns c =
     let d = c .before in
     let s = d .before .before .before in
     chosen-by (s .args .mode) (s .args .prod0) (s .args .k) (s .args .rows .now) 0 (s .args .tokens .now)
     (seen (d .walked .result)) _ (d .walked .ensures)
-    (c .answer .ensures ∙ ap (λ (z : ℤ). answer (s .args .mode) (accepting z) (d .walked .result .entered) (reached (d .walked .result .last)))
+    (c .answer .ensures ∙ ap (λ (z : ℤ). answer (s .args .mode) (accepting z) (d .walked .result .entered)
+        (reached (d .walked .result .last)))
       (same (s .args .prod0) (s .fits .prod0)))
 
 pub chosen-spec : {M : Type 1} → statement M

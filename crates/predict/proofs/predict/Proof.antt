@@ -7,59 +7,52 @@ use Rattle.predict.proofs.Parts.{refused-length, after-checks}
 use borrow.Author.Needs.{needs}
 use Rattle.predict.proofs.predict.Statement.{statement}
 use Rattle.predict.proofs.predict.Tie as tie
-use Rattle.predict.proofs.predict.Reads as reads
-use Rattle.predict.proofs.predict.Lts as lts
-use Rattle.predict.proofs.predict_checked.Reads as predict-checked-reads
-use Rattle.rows.proofs.checks.row_slice.Reads as row-slice-reads
-use Rattle.rows.proofs.verdict.plain.Reads as plain-reads
 
--- src/lib.rt:178:8
 row-slice-requires : tie.Need-row-slice-requires
 row-slice-requires c κs = search needs
 
--- src/lib.rt:179:9
 returns : tie.Need-returns
 returns c =
     let s = c .before .before .before in
-    refused-length (s .args .mode) (s .args .prod0) (s .args .k) (s .args .rows .now) (s .args .stream) (s .args .tokens .now) (sym (c .before .row-slice .ensures) ∙ c .if1 .taken)
+    refused-length (s .args .mode) (s .args .prod0) (s .args .k) (s .args .rows .now) (s .args .stream)
+        (s .args .tokens .now) (sym (c .before .row-slice .ensures) ∙ c .if1 .taken)
 
--- src/lib.rt:181:9
 plain-requires : tie.Need-plain-requires
 plain-requires c κs = search needs
 
--- src/lib.rt:183:26
 enum-known-verdict : tie.Need-enum-known-verdict
 enum-known-verdict c = search needs
 
--- src/lib.rt:184:26
 enum-told : tie.Need-enum-told
 enum-told c = search needs
 
--- src/lib.rt:184:26
 predict-checked-requires : tie.Need-predict-checked-requires
 predict-checked-requires c κs =
     let v = c .before .before in
     let s = v .before .before .before .before in
     record { checked = rw (c .enum-told .given .1) at (v .plain .ensures) }
 
--- src/lib.rt:168:1
 returns-2 : tie.Need-returns-2
 returns-2 c =
     let v = c .before .before .before in
     let i = v .before in
     let s = i .before .before .before in
-    after-checks (s .args .mode) (s .args .prod0) (s .args .k) (s .args .rows .now) (s .args .stream) (s .args .tokens .now) (sym (i .before .row-slice .ensures) ∙ i .if1 .left) _ (rw (c .before .verdict .given .1) at (rw (same (s .args .prod0) (s .fits .prod0)) at (v .plain .ensures)))
+    after-checks (s .args .mode) (s .args .prod0) (s .args .k) (s .args .rows .now) (s .args .stream)
+        (s .args .tokens .now) (sym (i .before .row-slice .ensures) ∙ i .if1 .left) _ (rw
+        (c .before .verdict .given .1) at (rw (same (s .args .prod0) (s .fits .prod0)) at (v .plain .ensures)))
 
--- src/lib.rt:168:1
 returns-3 : tie.Need-returns-3
 returns-3 c =
     let v = c .before .before .before in
     let i = v .before in
     let s = i .before .before .before in
     c .predict-checked .ensures
-    ∙ ap (λ (z : ℤ). checked (s .args .mode) (table z (s .args .k) (s .args .rows .now)) (s .args .stream) (s .args .tokens .now))
+    ∙ ap (λ (z : ℤ). checked (s .args .mode) (table z (s .args .k) (s .args .rows .now)) (s .args .stream)
+        (s .args .tokens .now))
       (same (s .args .prod0) (s .fits .prod0))
-    ∙ after-checks (s .args .mode) (s .args .prod0) (s .args .k) (s .args .rows .now) (s .args .stream) (s .args .tokens .now) (sym (i .before .row-slice .ensures) ∙ i .if1 .left) _ (rw (c .before .enum-told .given .1) at (rw (same (s .args .prod0) (s .fits .prod0)) at (v .plain .ensures)))
+    ∙ after-checks (s .args .mode) (s .args .prod0) (s .args .k) (s .args .rows .now) (s .args .stream)
+        (s .args .tokens .now) (sym (i .before .row-slice .ensures) ∙ i .if1 .left) _ (rw
+        (c .before .enum-told .given .1) at (rw (same (s .args .prod0) (s .fits .prod0)) at (v .plain .ensures)))
 
 pub predict-spec : {M : Type 1} → statement M
 predict-spec =

@@ -10,34 +10,28 @@ use Rattle.predict.specs.Seen.{checked}
 use borrow.Author.Needs.{needs}
 use Rattle.predict.proofs.predict_checked.Statement.{statement}
 use Rattle.predict.proofs.predict_checked.Tie as tie
-use Rattle.predict.proofs.predict_checked.Reads as reads
-use Rattle.predict.proofs.predict_checked.Lts as lts
-use Rattle.predict.proofs.chosen.Reads as chosen-reads
 
--- src/lib.rt:159:9
 returns : tie.Need-returns
 unfolding checked
 returns c = simp (lt-ltb _ _ (c .if1 .taken))
 
--- src/lib.rt:162:9
 returns-2 : tie.Need-returns-2
 unfolding checked
 returns-2 c = simp (le-ltb _ _ (c .before .if1 .left), lt-ltb _ _ (c .if2 .taken))
 
--- src/lib.rt:164:5
 chosen-requires : tie.Need-chosen-requires
 chosen-requires c κs =
     let s = c .before .before .before in
     (record { checked = rw (same (s .args .prod0) (s .fits .prod0)) (s .pre .checked) }, c .if2 .left)
 
--- src/lib.rt:147:1
 returns-3 : tie.Need-returns-3
 unfolding checked
 returns-3 c =
     let d = c .before .before in
     let s = d .before .before in
     simp (le-ltb _ _ (d .if1 .left), le-ltb _ _ (c .before .if2 .left))
-    (c .chosen .ensures ∙ ap (λ (z : ℤ). chosen (s .args .mode) (table z (s .args .k) (s .args .rows .now)) (s .args .tokens .now))
+    (c .chosen .ensures ∙ ap (λ (z : ℤ). chosen (s .args .mode) (table z (s .args .k) (s .args .rows .now))
+        (s .args .tokens .now))
       (same (s .args .prod0) (s .fits .prod0)))
 
 pub predict-checked-spec : {M : Type 1} → statement M

@@ -10,23 +10,18 @@ use Rattle.predict.specs.Seen.{seen}
 use Rattle.predict.proofs.Steps.{step-count, walk-next, walk-end}
 use Rattle.predict.proofs.walked.Statement.{statement}
 use Rattle.predict.proofs.walked.Tie as tie
-use Rattle.predict.proofs.walked.Reads as reads
-use Rattle.predict.proofs.walked.Lts as lts
-use Rattle.predict.proofs.Walk.start.Reads as start-reads
-use Rattle.predict.proofs.Walk.step.Reads as step-reads
 
 abbrev Inv-loop : tie.InvT-loop
 Inv-loop rows tokens w₀ i₀ w i =
-    (i ≤ length tokens) × (w .entered ≤ i) × (walk (rows-in rows) tokens start ≡ walk (rows-in rows) (drop i tokens) (seen w))
+    (i ≤ length tokens) × (w .entered ≤ i) × (walk (rows-in rows) tokens start ≡ walk (rows-in rows)
+        (drop i tokens) (seen w))
 
 abbrev μ-loop : tie.MeasureT-loop
 μ-loop rows tokens w₀ i₀ w i = length tokens - i
 
--- src/lib.rt:84:9
 start-requires : tie.Need-start-requires Inv-loop μ-loop
 start-requires c κs = tt
 
--- src/lib.rt:86:5
 loop-holds : tie.Need-loop-holds Inv-loop μ-loop
 unfolding start
 loop-holds c =
@@ -34,27 +29,21 @@ loop-holds c =
     (omega arith, omega (arith, ap (λ (w : paper.Walk). w .entered) e),
      ap (walk (rows-in (c .before .before .args .rows .now)) (c .before .before .args .tokens .now)) (sym e))
 
--- src/lib.rt:87:29
 mul-t5 : tie.Need-mul-t5 Inv-loop μ-loop
 mul-t5 c = search needs
 
--- src/lib.rt:87:29
 shared-slice-read-t8 : tie.Need-shared-slice-read-t8 Inv-loop μ-loop
 shared-slice-read-t8 c = omega arith
 
--- src/lib.rt:87:9
 step-requires : tie.Need-step-requires Inv-loop μ-loop
 step-requires c κs = (c .before .before .before .before .before .pre .0, omega arith)
 
--- src/lib.rt:88:9
 add-i : tie.Need-add-i Inv-loop μ-loop
 add-i c = omega arith
 
--- src/lib.rt:86:5
 loop-less : tie.Need-loop-less Inv-loop μ-loop
 loop-less c = omega arith
 
--- src/lib.rt:86:5
 loop-again : tie.Need-loop-again Inv-loop μ-loop
 loop-again c =
     let l = c .before .before .before in
@@ -64,14 +53,15 @@ loop-again c =
     let e = c .step .ensures in
     (omega arith,
      omega (arith, step-count rs t (seen (l .loop .w)), ap (λ (w : paper.Walk). w .entered) e),
-     l .loop .inv .2 ∙ walk-next rs (a .tokens .now) (l .loop .i) (seen (l .loop .w)) (seen (c .step .result)) (omega arith) e)
+     l .loop .inv .2 ∙ walk-next rs (a .tokens .now) (l .loop .i) (seen (l .loop .w)) (seen (c .step .result))
+         (omega arith) e)
 
--- src/lib.rt:80:1
 returns : tie.Need-returns Inv-loop μ-loop
 returns c =
     let l = c .before in
     let a = l .before .before .before .args in
-    sym (l .loop .inv .2 ∙ walk-end (rows-in (a .rows .now)) (a .tokens .now) (l .loop .i) (seen (l .loop .w)) (omega arith))
+    sym (l .loop .inv .2 ∙ walk-end (rows-in (a .rows .now)) (a .tokens .now) (l .loop .i) (seen (l .loop .w))
+        (omega arith))
 
 pub walked-spec : {M : Type 1} → statement M
 walked-spec =

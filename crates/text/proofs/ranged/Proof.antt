@@ -1,20 +1,16 @@
+-- `text::ranged` meets its contract. By the tests one after another. Assumes nothing.
 use borrow.Author.Tests.{le-leb, lt-leb}
 use Rattle.text.proofs.ranged.Statement.{statement}
 use Rattle.text.proofs.ranged.Tie as tie
-use Rattle.text.proofs.ranged.Reads as reads
-use Rattle.text.proofs.ranged.Lts as lts
 
--- src/lib.rt:44:9
 returns : tie.Need-returns
 returns c = rw (lt-leb (c .before .args .code) 65536 (c .if1 .taken))
 
--- src/lib.rt:47:9
 returns-2 : tie.Need-returns-2
 returns-2 c =
     let a = c .before .before .args in
     rw (le-leb (a .code) 65536 (c .before .if1 .left), lt-leb (a .k) 16 (c .if2 .taken))
 
--- src/lib.rt:40:1
 returns-3 : tie.Need-returns-3
 returns-3 c =
     let a = c .before .before .args in

@@ -1,46 +1,35 @@
-use mathlib.Core.Path.{_≡_, ap, sym, _∙_}
-use native.Mathlib.Omega.{arith}
+-- `text::text_in` meets its contract. Each refusal is the definition's; nothing is written before the last of them
+-- is ruled out. Assumes nothing.
+use mathlib.Core.Path.{ap, sym, _∙_}
 use borrow.Author.Tests.{not-true, not-false}
+use borrow.Author.Needs.{needs}
 use Rattle.paper.specs.declared.Refusal.the-variants.{Length, Range, Order, Text}
 use Rattle.text.specs.Tally.{scanned}
 use Rattle.text.proofs.Small.{head-from-at}
 use Rattle.text.proofs.Filled.{stored-code}
-use Rattle.text.proofs.In.{refused, in-room, in-head, in-bad, in-many, in-range, in-order, in-table, ready, code-small}
-use borrow.Author.Needs.{needs}
+use Rattle.text.proofs.In.{refused, in-room, in-head, in-bad, in-many, in-range, in-order, in-table, ready,
+  code-small}
 use Rattle.text.proofs.text_in.Statement.{statement}
 use Rattle.text.proofs.text_in.Tie as tie
-use Rattle.text.proofs.text_in.Reads as reads
-use Rattle.text.proofs.text_in.Lts as lts
-use Rattle.rows.proofs.numbers.production_of.Reads as production-of-reads
-use Rattle.text.proofs.passes.fill.Reads as fill-reads
-use Rattle.text.proofs.passes.scan.Reads as scan-reads
-use Rattle.text.proofs.ranged.Reads as ranged-reads
-use Rattle.text.proofs.reader.head_at.Reads as head-at-reads
 
--- src/lib.rt:57:9
 returns : tie.Need-returns
 returns c = refused Length (in-room _ _ (c .if1 .taken))
 
--- src/lib.rt:59:41
 head-at-requires : tie.Need-head-at-requires
 head-at-requires c κs = search needs
 
--- src/lib.rt:59:24
 enum-known-code : tie.Need-enum-known-code
 enum-known-code c = search needs
 
--- src/lib.rt:60:33
 enum-told : tie.Need-enum-told
 enum-told c = search needs
 
--- src/lib.rt:60:9
 returns-2 : tie.Need-returns-2
 returns-2 c =
     let h = c .before .before in
     let t = h .before .before .before .args .text .now in
     refused (Text 0) (in-head t _ (h .before .if1 .left) (sym (h .head-at .ensures) ∙ c .enum-told .given .1))
 
--- src/lib.rt:62:23
 scan-requires : tie.Need-scan-requires
 scan-requires c κs =
     let v = c .before in
@@ -48,15 +37,12 @@ scan-requires c κs =
     let t = h .before .before .before .args .text .now in
     head-from-at t _ _ _ (sym (h .head-at .ensures) ∙ v .code .given .1) .inside
 
--- src/lib.rt:63:20
 enum-known-tally : tie.Need-enum-known-tally
 enum-known-tally c = search needs
 
--- src/lib.rt:64:19
 enum-known-at : tie.Need-enum-known-at
 enum-known-at c = search needs
 
--- src/lib.rt:64:26
 returns-3 : tie.Need-returns-3
 returns-3 c =
     let r = c .before .before .before in
@@ -68,7 +54,6 @@ returns-3 c =
     let e = sym (r .scan .ensures) ∙ ap scanned (c .before .at .given .1) in
     refused (Text _) (in-bad t _ wide _ _ _ head _ e)
 
--- src/lib.rt:67:9
 returns-4 : tie.Need-returns-4
 returns-4 c =
     let s = c .before .before .before in
@@ -81,11 +66,9 @@ returns-4 c =
     let e = sym (r .scan .ensures) ∙ ap scanned (s .tally .given .1) in
     refused Length (in-many t _ wide _ _ _ head _ e (c .if2 .taken))
 
--- src/lib.rt:69:9
 ranged-requires : tie.Need-ranged-requires
 ranged-requires c κs = search needs
 
--- src/lib.rt:70:9
 returns-5 : tie.Need-returns-5
 returns-5 c =
     let s = c .before .before .before .before .before in
@@ -100,7 +83,6 @@ returns-5 c =
     let out = sym (q .ranged .ensures) ∙ not-true (q .ranged .result) (c .if3 .taken) in
     refused Range (in-range t _ wide _ _ _ head _ e (q .before .if2 .left) out)
 
--- src/lib.rt:73:9
 returns-6 : tie.Need-returns-6
 returns-6 c =
     let s = c .before .before .before .before .before .before .before in
@@ -116,7 +98,6 @@ returns-6 c =
     let fallen = not-true (s .tally .given .0 .0 .rising) (c .if4 .taken) in
     refused Order (in-order t _ wide _ _ _ head _ e (q .before .if2 .left) ranged fallen)
 
--- src/lib.rt:75:5
 fill-requires : tie.Need-fill-requires
 fill-requires c κs =
     let s = c .before .before .before .before .before .before .before .before in
@@ -131,7 +112,6 @@ fill-requires c κs =
     let ranged = sym (q .ranged .ensures) ∙ not-false (q .ranged .result) (c .before .before .before .if3 .left) in
     (head-from-at t _ _ _ head .inside, ready t _ wide _ _ _ head _ e (q .before .if2 .left) ranged)
 
--- src/lib.rt:76:28
 production-of-requires : tie.Need-production-of-requires
 production-of-requires c κs =
     let s = c .before .before .before .before .before .before .before .before .before .before in
@@ -143,14 +123,14 @@ production-of-requires c κs =
     let head = sym (h .head-at .ensures) ∙ v .code .given .1 in
     let e = sym (r .scan .ensures) ∙ ap scanned (s .tally .given .1) in
     let q = c .before .before .before .before .before .before in
-    let ranged = sym (q .ranged .ensures) ∙ not-false (q .ranged .result) (c .before .before .before .before .before .if3 .left) in
+    let ranged =
+        sym (q .ranged .ensures)
+        ∙ not-false (q .ranged .result) (c .before .before .before .before .before .if3 .left) in
     code-small t _ wide _ _ _ head _ e (q .before .if2 .left) ranged
 
--- src/lib.rt:53:1
 same-length : tie.Need-same-length
 same-length c = search needs
 
--- src/lib.rt:53:1
 returns-7 : tie.Need-returns-7
 returns-7 c =
     let s = c .before .before .before .before .before .before .before .before .before .before .before in
@@ -162,7 +142,9 @@ returns-7 c =
     let head = sym (h .head-at .ensures) ∙ v .code .given .1 in
     let e = sym (r .scan .ensures) ∙ ap scanned (s .tally .given .1) in
     let q = c .before .before .before .before .before .before .before in
-    let ranged = sym (q .ranged .ensures) ∙ not-false (q .ranged .result) (c .before .before .before .before .before .before .if3 .left) in
+    let ranged =
+        sym (q .ranged .ensures)
+        ∙ not-false (q .ranged .result) (c .before .before .before .before .before .before .if3 .left) in
     let few = q .before .if2 .left in
     let risen = not-false (s .tally .given .0 .0 .rising) (c .before .before .before .before .if4 .left) in
     let small = code-small t _ wide _ _ _ head _ e few ranged in

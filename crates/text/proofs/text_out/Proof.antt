@@ -1,45 +1,33 @@
-use Rattle.text.proofs.Out.{range-by, code-by}
-use mathlib.Core.Path.{_≡_, refl, ap, sym, _∙_}
+-- `text::text_out` meets its contract. Each refusal is the definition's, and what is written is the text at the
+-- front of the output. Assumes nothing.
+use mathlib.Core.Path.{sym, _∙_}
 use native.Mathlib.Omega.{arith}
-use Rattle.paper.specs.declared.Refusal.the-variants.{Length, Range, Order}
-use Rattle.rows.specs.Places.{code}
-use Rattle.rows.proofs.Fits.{code-fits}
-use Rattle.text.proofs.Out.{refused, written, out-slice, out-room, out-range, out-order, out-text, Ranged, in-range, in-slice, text-parts}
-use Rattle.text.proofs.Written.{puts-on, puts-as}
 use borrow.Author.Needs.{needs}
+use Rattle.paper.specs.declared.Refusal.the-variants.{Length, Range, Order}
+use Rattle.text.proofs.Out.{range-by, code-by, refused, written, out-slice, out-room, out-range, out-order,
+  out-text, in-range, in-slice, text-parts}
+use Rattle.text.proofs.Written.{puts-on, puts-as}
 use Rattle.text.proofs.text_out.Statement.{statement}
 use Rattle.text.proofs.text_out.Tie as tie
-use Rattle.text.proofs.text_out.Reads as reads
-use Rattle.text.proofs.text_out.Lts as lts
-use Rattle.rows.proofs.checks.order.Reads as order-reads
-use Rattle.rows.proofs.checks.range.Reads as range-reads
-use Rattle.rows.proofs.checks.row_slice.Reads as row-slice-reads
-use Rattle.rows.proofs.numbers.coded.Reads as coded-reads
-use Rattle.text.proofs.writing.put_head.Reads as put-head-reads
-use Rattle.text.proofs.writing.put_rows.Reads as put-rows-reads
 
--- src/lib.rt:15:8
 row-slice-requires : tie.Need-row-slice-requires
 row-slice-requires c κs = search needs
 
--- src/lib.rt:16:9
 returns : tie.Need-returns
 returns c =
     let a = c .before .before .before .args in
     refused Length (out-slice (a .prod0) (a .k) (a .rows .now) _ (sym (c .before .row-slice .ensures) ∙ c .if1 .taken))
 
--- src/lib.rt:19:9
 returns-2 : tie.Need-returns-2
 returns-2 c =
     let s = c .before .before in
     let a = s .before .before .args in
-    refused Length (out-room (a .prod0) (a .k) (a .rows .now) _ (sym (s .row-slice .ensures) ∙ c .before .if1 .left) (c .if2 .taken))
+    refused Length (out-room (a .prod0) (a .k) (a .rows .now) _ (sym (s .row-slice .ensures) ∙ c .before .if1 .left)
+      (c .if2 .taken))
 
--- src/lib.rt:21:8
 range-requires : tie.Need-range-requires
 range-requires c κs = search needs
 
--- src/lib.rt:22:9
 returns-3 : tie.Need-returns-3
 returns-3 c =
     let r = c .before in
@@ -50,7 +38,6 @@ returns-3 c =
     let out = range-by (a .prod0) (a .k) (a .rows .now) (g .fits .prod0) (r .range .ensures) (c .if3 .taken) in
     refused Range (out-range (a .prod0) (a .k) (a .rows .now) _ whole (r .before .if2 .left) out)
 
--- src/lib.rt:24:8
 order-requires : tie.Need-order-requires
 order-requires c κs =
     let r = c .before in
@@ -59,7 +46,6 @@ order-requires c κs =
     let ranged = range-by (a .prod0) (a .k) (a .rows .now) (g .fits .prod0) (r .range .ensures) (c .if3 .left) in
     in-range (a .prod0) (a .k) (a .rows .now) ranged .rows
 
--- src/lib.rt:25:9
 returns-4 : tie.Need-returns-4
 returns-4 c =
     let o = c .before in
@@ -68,15 +54,14 @@ returns-4 c =
     let g = s .before .before in
     let a = g .args in
     let whole = sym (s .row-slice .ensures) ∙ r .before .before .if1 .left in
-    let ranged = range-by (a .prod0) (a .k) (a .rows .now) (g .fits .prod0) (r .range .ensures) (o .before .if3 .left) in
+    let ranged =
+        range-by (a .prod0) (a .k) (a .rows .now) (g .fits .prod0) (r .range .ensures) (o .before .if3 .left) in
     let fallen = sym (o .order .ensures) ∙ c .if4 .taken in
     refused Order (out-order (a .prod0) (a .k) (a .rows .now) _ whole (r .before .if2 .left) ranged fallen)
 
--- src/lib.rt:27:39
 coded-requires : tie.Need-coded-requires
 coded-requires c κs = search needs
 
--- src/lib.rt:27:9
 put-head-requires : tie.Need-put-head-requires
 put-head-requires c κs =
     let e = c .before .before .before .before in
@@ -88,7 +73,6 @@ put-head-requires c κs =
     let q = code-by (a .prod0) (g .fits .prod0) (c .coded .ensures) in
     (omega arith, omega (arith, h .prod0), omega (arith, h .few))
 
--- src/lib.rt:28:20
 put-rows-requires : tie.Need-put-rows-requires
 put-rows-requires c κs =
     let w = c .before .before .before in
@@ -101,11 +85,9 @@ put-rows-requires c κs =
     let n = in-slice (a .rows .now) (sym (s .row-slice .ensures) ∙ r .before .before .if1 .left) in
     (omega (arith, w .put-head .ensures .within), in-range (a .prod0) (a .k) (a .rows .now) ranged .rows)
 
--- src/lib.rt:12:1
 same-length : tie.Need-same-length
 same-length c = search needs
 
--- src/lib.rt:12:1
 returns-5 : tie.Need-returns-5
 returns-5 c =
     let w = c .before .before in
@@ -117,7 +99,8 @@ returns-5 c =
     let a = g .args in
     let whole = sym (s .row-slice .ensures) ∙ r .before .before .if1 .left in
     let wide = r .before .if2 .left in
-    let ranged = range-by (a .prod0) (a .k) (a .rows .now) (g .fits .prod0) (r .range .ensures) (o .before .if3 .left) in
+    let ranged =
+        range-by (a .prod0) (a .k) (a .rows .now) (g .fits .prod0) (r .range .ensures) (o .before .if3 .left) in
     let risen = sym (o .order .ensures) ∙ p .before .before .before .if4 .left in
     let h = in-range (a .prod0) (a .k) (a .rows .now) ranged in
     let q = code-by (a .prod0) (g .fits .prod0) (p .before .coded .ensures) in

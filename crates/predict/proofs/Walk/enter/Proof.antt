@@ -6,30 +6,21 @@ use Rattle.predict.proofs.Steps.{enters-plain, enters-accepting}
 use borrow.Author.Needs.{needs}
 use Rattle.predict.proofs.Walk.enter.Statement.{statement}
 use Rattle.predict.proofs.Walk.enter.Tie as tie
-use Rattle.predict.proofs.Walk.enter.Reads as reads
-use Rattle.predict.proofs.Walk.enter.Lts as lts
-use Rattle.rows.proofs.numbers.code_at.Reads as code-at-reads
-use Rattle.rows.proofs.numbers.to_at.Reads as to-at-reads
 
--- src/lib.rt:68:18
 to-at-requires : tie.Need-to-at-requires
 to-at-requires c κs = search needs
 
--- src/lib.rt:68:18
 cast-to : tie.Need-cast-to
 cast-to c =
     let f = fit-at (c .before .pre .0) (c .before .args .i) (c .before .pre .1) in
     omega (arith, c .to-at .ensures .is, f .to)
 
--- src/lib.rt:69:13
 code-at-requires : tie.Need-code-at-requires
 code-at-requires c κs = search needs
 
--- src/lib.rt:73:26
 add-t12 : tie.Need-add-t12
 add-t12 c = search needs
 
--- src/lib.rt:71:13
 returns : tie.Need-returns
 returns c =
     let d = c .before in
@@ -37,22 +28,18 @@ returns c =
     enters-plain (seen (s .args .self)) (row-at (s .args .rows .now) (s .args .i)) _ _
       (d .before .to-at .ensures .is) (d .code-at .ensures .is) (c .if1 .taken)
 
--- src/lib.rt:77:18
 sub-q : tie.Need-sub-q
 sub-q c = search needs
 
--- src/lib.rt:77:17
 cast-q : tie.Need-cast-q
 cast-q c =
     let s = c .before .before .before in
     let f = fit-at (s .pre .0) (s .args .i) (s .pre .1) in
     omega (arith, c .before .code-at .ensures .is, f .production)
 
--- src/lib.rt:80:22
 add-t9 : tie.Need-add-t9
 add-t9 c = search needs
 
--- src/lib.rt:62:5
 returns-2 : tie.Need-returns-2
 returns-2 c =
     let d = c .before in

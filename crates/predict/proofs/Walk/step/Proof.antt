@@ -7,24 +7,16 @@ use Rattle.predict.proofs.Steps.{steps-in, steps-by}
 use borrow.Author.Needs.{needs}
 use Rattle.predict.proofs.Walk.step.Statement.{statement}
 use Rattle.predict.proofs.Walk.step.Tie as tie
-use Rattle.predict.proofs.Walk.step.Reads as reads
-use Rattle.predict.proofs.Walk.step.Lts as lts
-use Rattle.predict.proofs.Walk.enter.Reads as enter-reads
-use Rattle.rows.proofs.search.find.Reads as find-reads
 
--- src/lib.rt:48:46
 cast-find : tie.Need-cast-find
 cast-find c = search needs
 
--- src/lib.rt:48:60
 cast-find-2 : tie.Need-cast-find-2
 cast-find-2 c = search needs
 
--- src/lib.rt:48:13
 find-requires : tie.Need-find-requires
 find-requires c κs = search needs
 
--- src/lib.rt:50:23
 enum-known-found : tie.Need-enum-known-found
 enum-known-found c = search needs
 
@@ -33,23 +25,20 @@ there : (c : tie.After-known-told) → let s = c .before .before .before .before
     Finds (s .args .rows .now) (s .args .self .state .0) (s .args .token .0) (At (c .before .found .given .0 .0))
 there c = rw (c .before .found .given .1) at (c .before .before .before .find .ensures)
 
--- src/lib.rt:50:29
 enter-requires : tie.Need-enter-requires
 enter-requires c κs =
     let s = c .before .before .before .before .before .before .before in
     (s .pre .0, there c .0, s .pre .1)
 
--- src/lib.rt:51:34
 enum-told : tie.Need-enum-told
 enum-told c = search needs
 
--- src/lib.rt:43:5
 returns : tie.Need-returns
 returns c =
     let s = c .before .before .before .before .before .before .before .before in
-    c .enter .ensures ∙ steps-in (rows-in (s .args .rows .now)) (s .args .token .0) (seen (s .args .self)) _ (there (c .before) .1)
+    c .enter .ensures ∙ steps-in (rows-in (s .args .rows .now)) (s .args .token .0) (seen (s .args .self)) _
+        (there (c .before) .1)
 
--- src/lib.rt:43:5
 returns-2 : tie.Need-returns-2
 returns-2 c =
     let s = c .before .before .before .before .before .before in

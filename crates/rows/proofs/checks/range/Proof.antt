@@ -8,23 +8,16 @@ use Rattle.rows.proofs.Fits.{prod0-out, k-out, rows-left}
 use borrow.Author.Needs.{needs}
 use Rattle.rows.proofs.checks.range.Statement.{statement}
 use Rattle.rows.proofs.checks.range.Tie as tie
-use Rattle.rows.proofs.checks.range.Reads as reads
-use Rattle.rows.proofs.checks.range.Lts as lts
-use Rattle.rows.proofs.checks.rows_fit.Reads as rows-fit-reads
-use Rattle.rows.proofs.numbers.coded.Reads as coded-reads
 
--- src/checks.rt:59:16
 coded-requires : tie.Need-coded-requires
 coded-requires c κs = search needs
 
--- src/checks.rt:60:9
 returns : tie.Need-returns
 returns c =
     let s = c .before .before in
     let e = (read-passed (λ z. code (accepting z)) (s .args .prod0) _ (s .fits .prod0) (c .before .coded .ensures)) in
     prod0-out (table (s .args .prod0) (s .args .k) (s .args .rows .now)) _ (e .is) (c .if1 .taken)
 
--- src/checks.rt:63:9
 returns-2 : tie.Need-returns-2
 returns-2 c =
     let d = c .before in
@@ -32,11 +25,9 @@ returns-2 c =
     let e = (read-passed (λ z. code (accepting z)) (s .args .prod0) _ (s .fits .prod0) (d .before .coded .ensures)) in
     k-out (table (s .args .prod0) (s .args .k) (s .args .rows .now)) _ (e .is) (d .if1 .left) (c .if2 .taken)
 
--- src/checks.rt:65:6
 rows-fit-requires : tie.Need-rows-fit-requires
 rows-fit-requires c κs = search needs
 
--- src/checks.rt:56:1
 returns-3 : tie.Need-returns-3
 returns-3 c =
     let k = c .before in

@@ -7,28 +7,18 @@ use Rattle.rows.proofs.Fits.{from-out, terminal-out, to-out, production
 use borrow.Author.Needs.{needs}
 use Rattle.rows.proofs.checks.row_fits.Statement.{statement}
 use Rattle.rows.proofs.checks.row_fits.Tie as tie
-use Rattle.rows.proofs.checks.row_fits.Reads as reads
-use Rattle.rows.proofs.checks.row_fits.Lts as lts
-use Rattle.rows.proofs.numbers.code_at.Reads as code-at-reads
-use Rattle.rows.proofs.numbers.from_at.Reads as from-at-reads
-use Rattle.rows.proofs.numbers.terminal_at.Reads as terminal-at-reads
-use Rattle.rows.proofs.numbers.to_at.Reads as to-at-reads
 
--- src/checks.rt:28:15
 from-at-requires : tie.Need-from-at-requires
 from-at-requires c κs = search needs
 
--- src/checks.rt:29:9
 returns : tie.Need-returns
 returns c =
     let s = c .before .before in
     from-out (row-at (s .args .rows .now) (s .args .i)) (omega (arith, c .before .from-at .ensures .is))
 
--- src/checks.rt:31:16
 terminal-at-requires : tie.Need-terminal-at-requires
 terminal-at-requires c κs = search needs
 
--- src/checks.rt:32:9
 returns-2 : tie.Need-returns-2
 returns-2 c =
     let f = c .before .before in
@@ -36,11 +26,9 @@ returns-2 c =
     terminal-out (row-at (s .args .rows .now) (s .args .i))
       (omega (arith, f .before .from-at .ensures .is)) (omega (arith, c .before .terminal-at .ensures .is))
 
--- src/checks.rt:34:15
 to-at-requires : tie.Need-to-at-requires
 to-at-requires c κs = search needs
 
--- src/checks.rt:35:9
 returns-3 : tie.Need-returns-3
 returns-3 c =
     let t = c .before .before in
@@ -50,11 +38,9 @@ returns-3 c =
       (omega (arith, f .before .from-at .ensures .is)) (omega (arith, t .before .terminal-at .ensures .is))
       (omega (arith, c .before .to-at .ensures .is))
 
--- src/checks.rt:37:5
 code-at-requires : tie.Need-code-at-requires
 code-at-requires c κs = search needs
 
--- src/checks.rt:24:1
 returns-4 : tie.Need-returns-4
 returns-4 c =
     let g = c .before in

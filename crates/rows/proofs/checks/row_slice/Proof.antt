@@ -2,15 +2,11 @@ use borrow.Author.Tests.{eq-eqb, ne-eqb}
 use Rattle.paper.specs.Checks.{row-slice}
 use Rattle.rows.proofs.checks.row_slice.Statement.{statement}
 use Rattle.rows.proofs.checks.row_slice.Tie as tie
-use Rattle.rows.proofs.checks.row_slice.Reads as reads
-use Rattle.rows.proofs.checks.row_slice.Lts as lts
 
--- src/checks.rt:18:9
 returns : tie.Need-returns
 unfolding row-slice
 returns c = simp (ne-eqb _ _ (c .if1 .taken))
 
--- src/checks.rt:13:1
 returns-2 : tie.Need-returns-2
 unfolding row-slice
 returns-2 c = simp (eq-eqb _ _ (c .if1 .left))

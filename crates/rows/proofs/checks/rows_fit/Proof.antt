@@ -9,9 +9,6 @@ use Rattle.rows.specs.Places.{rest}
 use Rattle.rows.proofs.Rest.{every-next, every-fails, every-end}
 use Rattle.rows.proofs.checks.rows_fit.Statement.{statement}
 use Rattle.rows.proofs.checks.rows_fit.Tie as tie
-use Rattle.rows.proofs.checks.rows_fit.Reads as reads
-use Rattle.rows.proofs.checks.rows_fit.Lts as lts
-use Rattle.rows.proofs.checks.row_fits.Reads as row-fits-reads
 
 abbrev Inv-loop : tie.InvT-loop
 Inv-loop rows n i₀ i = every row-fits (rows-in rows) ≡ every row-fits (rest rows i)
@@ -19,37 +16,30 @@ Inv-loop rows n i₀ i = every row-fits (rows-in rows) ≡ every row-fits (rest 
 abbrev μ-loop : tie.MeasureT-loop
 μ-loop rows n i₀ i = n - i
 
--- src/checks.rt:46:5
 loop-holds : tie.Need-loop-holds Inv-loop μ-loop
 loop-holds c = refl
 
--- src/checks.rt:47:13
 row-fits-requires : tie.Need-row-fits-requires Inv-loop μ-loop
 row-fits-requires c κs = search needs
 
--- src/checks.rt:48:13
 returns : tie.Need-returns Inv-loop μ-loop
 returns c =
     let l = c .before .before .before in
     let e = sym (c .before .row-fits .ensures) ∙ not-true _ (c .if1 .taken) in
     sym (l .loop .inv ∙ every-fails row-fits (l .before .args .rows .now) (l .loop .i) (omega arith) e)
 
--- src/checks.rt:50:9
 add-i : tie.Need-add-i Inv-loop μ-loop
 add-i c = search needs
 
--- src/checks.rt:46:5
 loop-less : tie.Need-loop-less Inv-loop μ-loop
 loop-less c = search needs
 
--- src/checks.rt:46:5
 loop-again : tie.Need-loop-again Inv-loop μ-loop
 loop-again c =
     let l = c .before .before .before in
     let e = sym (c .before .row-fits .ensures) ∙ not-false _ (c .if1 .left) in
     l .loop .inv ∙ every-next row-fits (l .before .args .rows .now) (l .loop .i) (omega arith) e
 
--- src/checks.rt:41:1
 returns-2 : tie.Need-returns-2 Inv-loop μ-loop
 returns-2 c =
     let l = c .before in

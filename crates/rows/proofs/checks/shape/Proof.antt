@@ -11,10 +11,6 @@ use Rattle.rows.specs.Places.{row-at, rest}
 use Rattle.rows.proofs.Rest.{any-next, any-here, any-end}
 use Rattle.rows.proofs.checks.shape.Statement.{statement}
 use Rattle.rows.proofs.checks.shape.Tie as tie
-use Rattle.rows.proofs.checks.shape.Reads as reads
-use Rattle.rows.proofs.checks.shape.Lts as lts
-use Rattle.rows.proofs.numbers.from_at.Reads as from-at-reads
-use Rattle.rows.proofs.numbers.to_at.Reads as to-at-reads
 
 abbrev falls : Row → Bool
 falls r = leb (r .to) (r .from)
@@ -25,19 +21,15 @@ Inv-loop rows n i₀ i = any falls (rows-in rows) ≡ any falls (rest rows i)
 abbrev μ-loop : tie.MeasureT-loop
 μ-loop rows n i₀ i = n - i
 
--- src/checks.rt:90:5
 loop-holds : tie.Need-loop-holds Inv-loop μ-loop
 loop-holds c = refl
 
--- src/checks.rt:91:12
 to-at-requires : tie.Need-to-at-requires Inv-loop μ-loop
 to-at-requires c κs = search needs
 
--- src/checks.rt:91:39
 from-at-requires : tie.Need-from-at-requires Inv-loop μ-loop
 from-at-requires c κs = search needs
 
--- src/checks.rt:92:13
 returns : tie.Need-returns Inv-loop μ-loop
 unfolding shape
 returns c =
@@ -47,15 +39,12 @@ returns c =
         omega (arith, c .before .before .to-at .ensures, c .before .from-at .ensures) in
     sym (l .loop .inv ∙ any-here falls ns (l .loop .i) (omega arith) (le-leb _ _ k))
 
--- src/checks.rt:94:9
 add-i : tie.Need-add-i Inv-loop μ-loop
 add-i c = search needs
 
--- src/checks.rt:90:5
 loop-less : tie.Need-loop-less Inv-loop μ-loop
 loop-less c = search needs
 
--- src/checks.rt:90:5
 loop-again : tie.Need-loop-again Inv-loop μ-loop
 loop-again c =
     let l = c .before .before .before .before in
@@ -64,7 +53,6 @@ loop-again c =
         omega (arith, c .before .before .to-at .ensures, c .before .from-at .ensures) in
     l .loop .inv ∙ any-next falls ns (l .loop .i) (omega arith) (lt-leb _ _ k)
 
--- src/checks.rt:85:1
 returns-2 : tie.Need-returns-2 Inv-loop μ-loop
 unfolding shape
 returns-2 c =

@@ -5,35 +5,27 @@ use Rattle.rows.specs.Places.{code}
 use borrow.Author.Needs.{needs}
 use Rattle.rows.proofs.numbers.code_at.Statement.{statement}
 use Rattle.rows.proofs.numbers.code_at.Tie as tie
-use Rattle.rows.proofs.numbers.code_at.Reads as reads
-use Rattle.rows.proofs.numbers.code_at.Lts as lts
-use Rattle.rows.proofs.numbers.coded.Reads as coded-reads
 
--- src/numbers.rt:75:16
 mul-coded : tie.Need-mul-coded
 mul-coded c = search needs
 
--- src/numbers.rt:75:16
 add-coded : tie.Need-add-coded
 add-coded c = search needs
 
--- src/numbers.rt:75:11
 mul-coded-2 : tie.Need-mul-coded-2
 mul-coded-2 c = search needs
 
--- src/numbers.rt:75:11
 shared-slice-copy-out-coded : tie.Need-shared-slice-copy-out-coded
 shared-slice-copy-out-coded c = search needs
 
--- src/numbers.rt:75:5
 coded-requires : tie.Need-coded-requires
 coded-requires c κs = search needs
 
--- src/numbers.rt:71:1
 returns : tie.Need-returns
 returns c =
     let a = c .before .before .args in
-    s.read-at (λ z. code (accepting z)) (a .rows .now) (a .i * 4 + 3) _ (c .before .coded-arg .given) (c .coded .ensures)
+    s.read-at (λ z. code (accepting z)) (a .rows .now) (a .i * 4 + 3) _ (c .before .coded-arg .given)
+        (c .coded .ensures)
 
 pub code-at-spec : {M : Type 1} → statement M
 code-at-spec =

@@ -1,18 +1,13 @@
 use Rattle.rows.proofs.Signed as s
 use Rattle.rows.proofs.numbers.natural.Statement.{statement}
 use Rattle.rows.proofs.numbers.natural.Tie as tie
-use Rattle.rows.proofs.numbers.natural.Reads as reads
-use Rattle.rows.proofs.numbers.natural.Lts as lts
 
--- src/numbers.rt:14:31
 cast-result : tie.Need-cast-result
 cast-result c = s.cast (c .before .args .x) (c .before .fits .x) (c .if1 .left)
 
--- src/numbers.rt:11:1
 returns : tie.Need-returns
 returns c = s.is-below (c .before .args .x) (c .before .fits .x) (c .if1 .taken)
 
--- src/numbers.rt:11:1
 returns-2 : tie.Need-returns-2
 returns-2 c = s.is-natural (c .before .args .x) (c .before .fits .x) (c .if1 .left)
 

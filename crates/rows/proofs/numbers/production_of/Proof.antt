@@ -2,22 +2,16 @@ use Rattle.rows.proofs.Signed as s
 use borrow.Author.Needs.{needs}
 use Rattle.rows.proofs.numbers.production_of.Statement.{statement}
 use Rattle.rows.proofs.numbers.production_of.Tie as tie
-use Rattle.rows.proofs.numbers.production_of.Reads as reads
-use Rattle.rows.proofs.numbers.production_of.Lts as lts
 
--- src/numbers.rt:43:30
 sub-result : tie.Need-sub-result
 sub-result c = search needs
 
--- src/numbers.rt:43:29
 cast-result : tie.Need-cast-result
 cast-result c = search needs
 
--- src/numbers.rt:39:1
 returns : tie.Need-returns
 returns c = s.none-back (c .before .args .n) (c .if1 .taken)
 
--- src/numbers.rt:39:1
 returns-2 : tie.Need-returns-2
 returns-2 c = s.production-back (c .before .args .n) (c .if1 .left) (c .before .pre)
 

@@ -4,44 +4,35 @@ use Rattle.rows.proofs.Found.{found, missing-end, missing-here}
 use borrow.Author.Needs.{needs}
 use Rattle.rows.proofs.search.find.Statement.{statement}
 use Rattle.rows.proofs.search.find.Tie as tie
-use Rattle.rows.proofs.search.find.Reads as reads
-use Rattle.rows.proofs.search.find.Lts as lts
-use Rattle.rows.proofs.search.key.Reads as key-reads
-use Rattle.rows.proofs.search.lower.Reads as lower-reads
 
--- src/search.rt:83:13
 mul-x : tie.Need-mul-x
 mul-x c = search needs
 
--- src/search.rt:83:13
 add-x : tie.Need-add-x
 add-x c = search needs
 
--- src/search.rt:84:9
 lower-requires : tie.Need-lower-requires
 lower-requires c κs = search needs
 
--- src/search.rt:86:9
 returns : tie.Need-returns
 returns c =
     let s = c .before .before in
     let a = s .args in
-    (missing-end (a .rows .now) (a .state) (a .terminal) _ (c .before .lower .ensures) (omega arith), c .before .lower .ensures)
+    (missing-end (a .rows .now) (a .state) (a .terminal) _ (c .before .lower .ensures)
+        (omega arith), c .before .lower .ensures)
 
--- src/search.rt:88:8
 key-requires : tie.Need-key-requires
 key-requires c κs = search needs
 
--- src/search.rt:89:9
 returns-2 : tie.Need-returns-2
 returns-2 c =
     let l = c .before .before .before in
     let s = l .before in
     let a = s .args in
     let e = sym (c .before .key .ensures) ∙ c .if2 .taken in
-    (omega arith, found (a .rows .now) (a .state) (a .terminal) _ (l .lower .ensures) (s .pre .0) (s .pre .2) (omega arith) e)
+    (omega arith, found (a .rows .now) (a .state) (a .terminal) _ (l .lower .ensures) (s .pre .0) (s .pre .2)
+        (omega arith) e)
 
--- src/search.rt:79:1
 returns-3 : tie.Need-returns-3
 returns-3 c =
     let l = c .before .before .before in

@@ -5,9 +5,6 @@ use Rattle.rows.specs.Search.{Bracket}
 use Rattle.rows.proofs.Bracket.{raised, sunk, met}
 use Rattle.rows.proofs.search.halve.Statement.{statement}
 use Rattle.rows.proofs.search.halve.Tie as tie
-use Rattle.rows.proofs.search.halve.Reads as reads
-use Rattle.rows.proofs.search.halve.Lts as lts
-use Rattle.rows.proofs.search.key.Reads as key-reads
 
 abbrev Inv-loop : tie.InvT-loop
 Inv-loop rows start x low₀ high₀ low high = Bracket rows x low high
@@ -15,49 +12,39 @@ Inv-loop rows start x low₀ high₀ low high = Bracket rows x low high
 abbrev μ-loop : tie.MeasureT-loop
 μ-loop rows start x low₀ high₀ low high = high - low
 
--- src/search.rt:51:5
 loop-holds : tie.Need-loop-holds Inv-loop μ-loop
 loop-holds c = c .pre .1
 
--- src/search.rt:52:29
 sub-middle : tie.Need-sub-middle Inv-loop μ-loop
 sub-middle c = search needs
 
--- src/search.rt:52:22
 add-middle : tie.Need-add-middle Inv-loop μ-loop
 add-middle c = search needs
 
--- src/search.rt:53:12
 key-requires : tie.Need-key-requires Inv-loop μ-loop
 key-requires c κs =
     let l = c .before in
     (l .before .pre .0, omega (arith, l .loop .inv .within))
 
--- src/search.rt:54:19
 add-low : tie.Need-add-low Inv-loop μ-loop
 add-low c = search needs
 
--- src/search.rt:51:5
 loop-less : tie.Need-loop-less Inv-loop μ-loop
 loop-less c = search needs
 
--- src/search.rt:51:5
 loop-again : tie.Need-loop-again Inv-loop μ-loop
 loop-again c =
     let l = c .before .before .before in
     raised (l .before .pre .0) (l .loop .inv) _ (omega arith) (omega (arith, c .before .key .ensures))
 
--- src/search.rt:51:5
 loop-less-2 : tie.Need-loop-less-2 Inv-loop μ-loop
 loop-less-2 c = search needs
 
--- src/search.rt:51:5
 loop-again-2 : tie.Need-loop-again-2 Inv-loop μ-loop
 loop-again-2 c =
     let l = c .before .before .before in
     sunk (l .before .pre .0) (l .loop .inv) _ (omega arith) (omega arith) (omega (arith, c .before .key .ensures))
 
--- src/search.rt:45:1
 returns : tie.Need-returns Inv-loop μ-loop
 returns c = met (c .before .loop .inv) (c .loop-test .left)
 

@@ -8,22 +8,16 @@ use Rattle.rows.proofs.Bracket.{fit-at}
 use borrow.Author.Needs.{needs}
 use Rattle.rows.proofs.search.key.Statement.{statement}
 use Rattle.rows.proofs.search.key.Tie as tie
-use Rattle.rows.proofs.search.key.Reads as reads
-use Rattle.rows.proofs.search.key.Lts as lts
 
--- src/search.rt:26:11
 mul-result : tie.Need-mul-result
 mul-result c = search needs
 
--- src/search.rt:26:6
 mul-result-2 : tie.Need-mul-result-2
 mul-result-2 c = search needs
 
--- src/search.rt:26:6
 shared-slice-copy-out-result : tie.Need-shared-slice-copy-out-result
 shared-slice-copy-out-result c = search needs
 
--- src/search.rt:26:6
 cast-result : tie.Need-cast-result
 cast-result c =
     let s = c .before in
@@ -31,7 +25,6 @@ cast-result c =
     let b : natural (getD (s .args .rows .now) (s .args .i * 4) (pos 0)) ≤ 65535 = omega (arith, f .from) in
     plain-cast (getD (s .args .rows .now) (s .args .i * 4) (pos 0)) b (c .result .given)
 
--- src/search.rt:26:5
 mul-result-3 : tie.Need-mul-result-3
 mul-result-3 c =
     let s = c .before in
@@ -39,46 +32,41 @@ mul-result-3 c =
     let b : natural (getD (s .args .rows .now) (s .args .i * 4) (pos 0)) ≤ 65535 = omega (arith, f .from) in
     omega (arith, plain-read (getD (s .args .rows .now) (s .args .i * 4) (pos 0)) b (c .result .given))
 
--- src/search.rt:26:44
 mul-result-4 : tie.Need-mul-result-4
 mul-result-4 c = search needs
 
--- src/search.rt:26:44
 add-result : tie.Need-add-result
 add-result c = search needs
 
--- src/search.rt:26:39
 mul-result-5 : tie.Need-mul-result-5
 mul-result-5 c = search needs
 
--- src/search.rt:26:39
 shared-slice-copy-out-result-2 : tie.Need-shared-slice-copy-out-result-2
 shared-slice-copy-out-result-2 c = search needs
 
--- src/search.rt:26:39
 cast-result-2 : tie.Need-cast-result-2
 cast-result-2 c =
     let s = c .before .before in
     let f = fit-at (s .pre .0) (s .args .i) (s .pre .1) in
     plain-cast (getD (s .args .rows .now) (s .args .i * 4 + 1) (pos 0)) (f .terminal) (c .result2 .given)
 
--- src/search.rt:26:5
 add-result-2 : tie.Need-add-result-2
 add-result-2 c =
     let r = c .before in
     let s = r .before in
     let f = fit-at (s .pre .0) (s .args .i) (s .pre .1) in
     let b : natural (getD (s .args .rows .now) (s .args .i * 4) (pos 0)) ≤ 65535 = omega (arith, f .from) in
-    omega (arith, plain-read (getD (s .args .rows .now) (s .args .i * 4) (pos 0)) b (r .result .given), plain-read (getD (s .args .rows .now) (s .args .i * 4 + 1) (pos 0)) (f .terminal) (c .result2 .given))
+    omega (arith, plain-read (getD (s .args .rows .now) (s .args .i * 4) (pos 0)) b (r .result .given), plain-read
+        (getD (s .args .rows .now) (s .args .i * 4 + 1) (pos 0)) (f .terminal) (c .result2 .given))
 
--- src/search.rt:22:1
 returns : tie.Need-returns
 returns c =
     let r = c .before in
     let s = r .before in
     let f = fit-at (s .pre .0) (s .args .i) (s .pre .1) in
     let b : natural (getD (s .args .rows .now) (s .args .i * 4) (pos 0)) ≤ 65535 = omega (arith, f .from) in
-    omega (arith, plain-read (getD (s .args .rows .now) (s .args .i * 4) (pos 0)) b (r .result .given), plain-read (getD (s .args .rows .now) (s .args .i * 4 + 1) (pos 0)) (f .terminal) (c .result2 .given))
+    omega (arith, plain-read (getD (s .args .rows .now) (s .args .i * 4) (pos 0)) b (r .result .given), plain-read
+        (getD (s .args .rows .now) (s .args .i * 4 + 1) (pos 0)) (f .terminal) (c .result2 .given))
 
 pub key-spec : {M : Type 1} → statement M
 key-spec =

@@ -2,38 +2,28 @@ use Rattle.rows.proofs.Counted.{leaves, leaves-order}
 use borrow.Author.Needs.{needs}
 use Rattle.rows.proofs.search.leaving.Statement.{statement}
 use Rattle.rows.proofs.search.leaving.Tie as tie
-use Rattle.rows.proofs.search.leaving.Reads as reads
-use Rattle.rows.proofs.search.leaving.Lts as lts
-use Rattle.rows.proofs.search.lower.Reads as lower-reads
 
--- src/search.rt:61:29
 mul-lower : tie.Need-mul-lower
 mul-lower c = search needs
 
--- src/search.rt:61:9
 lower-requires : tie.Need-lower-requires
 lower-requires c κs = search needs
 
--- src/search.rt:62:28
 add-lower : tie.Need-add-lower
 add-lower c = search needs
 
--- src/search.rt:62:27
 mul-lower-2 : tie.Need-mul-lower-2
 mul-lower-2 c = search needs
 
--- src/search.rt:62:9
 lower-requires-2 : tie.Need-lower-requires-2
 lower-requires-2 c κs = search needs
 
--- src/search.rt:65:16
 sub-t5 : tie.Need-sub-t5
 sub-t5 c =
     let l = c .before in
     let s = l .before in
     leaves-order (s .args .rows .now) (s .args .state) _ _ (s .pre .0) (l .lower .ensures) (c .lower2 .ensures)
 
--- src/search.rt:57:1
 returns : tie.Need-returns
 returns c =
     let l = c .before in

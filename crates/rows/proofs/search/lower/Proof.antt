@@ -4,42 +4,30 @@ use Rattle.rows.proofs.Bracket.{opened, scanned}
 use borrow.Author.Needs.{needs}
 use Rattle.rows.proofs.search.lower.Statement.{statement}
 use Rattle.rows.proofs.search.lower.Tie as tie
-use Rattle.rows.proofs.search.lower.Reads as reads
-use Rattle.rows.proofs.search.lower.Lts as lts
-use Rattle.rows.proofs.search.halve.Reads as halve-reads
-use Rattle.rows.proofs.search.key.Reads as key-reads
-use Rattle.rows.proofs.search.scan.Reads as scan-reads
 
--- src/search.rt:70:9
 scan-requires : tie.Need-scan-requires
 scan-requires c κs = search needs
 
--- src/search.rt:70:9
 returns : tie.Need-returns
 returns c =
     let s = c .before .before in
     scanned (s .pre) _ (s .args .x) _ (c .scan .ensures) (omega arith) (λ q. refl)
 
--- src/search.rt:72:8
 key-requires : tie.Need-key-requires
 key-requires c κs = search needs
 
--- src/search.rt:73:9
 halve-requires : tie.Need-halve-requires
 halve-requires c κs =
     let k = c .before in
     let s = k .before .before in
     (s .pre, opened (s .pre) (s .args .x) 31 (omega arith) (omega (arith, k .key .ensures)))
 
--- src/search.rt:73:9
 returns-2 : tie.Need-returns-2
 returns-2 c = search needs
 
--- src/search.rt:75:5
 scan-requires-2 : tie.Need-scan-requires-2
 scan-requires-2 c κs = search needs
 
--- src/search.rt:64:1
 returns-3 : tie.Need-returns-3
 returns-3 c =
     let k = c .before .before in

@@ -6,9 +6,6 @@ use Rattle.rows.specs.Search.{Below}
 use Rattle.rows.proofs.Bracket.{none-passed, one-passed}
 use Rattle.rows.proofs.search.scan.Statement.{statement}
 use Rattle.rows.proofs.search.scan.Tie as tie
-use Rattle.rows.proofs.search.scan.Reads as reads
-use Rattle.rows.proofs.search.scan.Lts as lts
-use Rattle.rows.proofs.search.key.Reads as key-reads
 
 abbrev Inv-loop : tie.InvT-loop
 Inv-loop rows end x i₀ i = (i ≤ end) × Below rows x i
@@ -16,37 +13,30 @@ Inv-loop rows end x i₀ i = (i ≤ end) × Below rows x i
 abbrev μ-loop : tie.MeasureT-loop
 μ-loop rows end x i₀ i = end - i
 
--- src/search.rt:35:5
 loop-holds : tie.Need-loop-holds Inv-loop μ-loop
 loop-holds c = (omega arith, none-passed _ _)
 
--- src/search.rt:36:17
 key-requires : tie.Need-key-requires Inv-loop μ-loop
 key-requires c κs =
     let l = c .before in
     (l .before .pre .0, omega arith)
 
--- src/search.rt:37:13
 returns : tie.Need-returns Inv-loop μ-loop
 returns c =
     let l = c .before .before .before in
     record { within = omega arith; below = l .loop .inv .1; here = λ h. omega (arith, c .before .key .ensures) }
 
--- src/search.rt:39:9
 add-i : tie.Need-add-i Inv-loop μ-loop
 add-i c = search needs
 
--- src/search.rt:35:5
 loop-less : tie.Need-loop-less Inv-loop μ-loop
 loop-less c = omega arith
 
--- src/search.rt:35:5
 loop-again : tie.Need-loop-again Inv-loop μ-loop
 loop-again c =
     let l = c .before .before .before in
     (omega arith, one-passed (l .loop .inv .1) (omega (arith, c .before .key .ensures)))
 
--- src/search.rt:30:1
 returns-2 : tie.Need-returns-2 Inv-loop μ-loop
 returns-2 c =
     let l = c .before in

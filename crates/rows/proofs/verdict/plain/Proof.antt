@@ -6,43 +6,38 @@ use Rattle.rows.proofs.Judged.{done, refuses, next-check, range-passed,
 use borrow.Author.Needs.{needs}
 use Rattle.rows.proofs.verdict.plain.Statement.{statement}
 use Rattle.rows.proofs.verdict.plain.Tie as tie
-use Rattle.rows.proofs.verdict.plain.Reads as reads
-use Rattle.rows.proofs.verdict.plain.Lts as lts
-use Rattle.rows.proofs.checks.order.Reads as order-reads
-use Rattle.rows.proofs.checks.range.Reads as range-reads
 
--- src/verdict.rt:20:8
 range-requires : tie.Need-range-requires
 range-requires c κs = search needs
 
--- src/verdict.rt:21:9
 returns : tie.Need-returns
 returns c =
     let s = c .before .before in
-    refuses Range refl refl (range-passed (s .args .prod0) (s .args .k) (s .args .rows .now) _ (s .fits .prod0) (c .before .range .ensures) ∙ c .if1 .taken)
+    refuses Range refl refl (range-passed (s .args .prod0) (s .args .k) (s .args .rows .now) _ (s .fits .prod0)
+        (c .before .range .ensures) ∙ c .if1 .taken)
 
--- src/verdict.rt:23:8
 order-requires : tie.Need-order-requires
 order-requires c κs =
     let s = c .before .before in
-    rows-fit (table (s .args .prod0) (s .args .k) (s .args .rows .now)) (range-passed (s .args .prod0) (s .args .k) (s .args .rows .now) _ (s .fits .prod0) (c .before .range .ensures) ∙ c .if1 .left)
+    rows-fit (table (s .args .prod0) (s .args .k) (s .args .rows .now)) (range-passed (s .args .prod0)
+        (s .args .k) (s .args .rows .now) _ (s .fits .prod0) (c .before .range .ensures) ∙ c .if1 .left)
 
--- src/verdict.rt:24:9
 returns-2 : tie.Need-returns-2
 unfolding order
 returns-2 c =
     let d = c .before .before in
     let s = d .before .before in
-    next-check (range-passed (s .args .prod0) (s .args .k) (s .args .rows .now) _ (s .fits .prod0) (d .before .range .ensures) ∙ d .if1 .left)
+    next-check (range-passed (s .args .prod0) (s .args .k) (s .args .rows .now) _ (s .fits .prod0)
+        (d .before .range .ensures) ∙ d .if1 .left)
     (refuses Order refl refl (sym (c .before .order .ensures) ∙ c .if2 .taken))
 
--- src/verdict.rt:17:1
 returns-3 : tie.Need-returns-3
 unfolding order
 returns-3 c =
     let d = c .before .before in
     let s = d .before .before in
-    next-check (range-passed (s .args .prod0) (s .args .k) (s .args .rows .now) _ (s .fits .prod0) (d .before .range .ensures) ∙ d .if1 .left)
+    next-check (range-passed (s .args .prod0) (s .args .k) (s .args .rows .now) _ (s .fits .prod0)
+        (d .before .range .ensures) ∙ d .if1 .left)
     (next-check (sym (c .before .order .ensures) ∙ c .if2 .left) done)
 
 pub plain-spec : {M : Type 1} → statement M

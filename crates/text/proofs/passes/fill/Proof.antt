@@ -1,24 +1,19 @@
+-- `text::passes::fill` meets its contract. The loop's invariant: the rows from the place on are ready, and written
+-- they make the output asked for. Assumes nothing.
+use Prim.Native.Nat.{_+_, _-_, _≤_}
 use mathlib.Core.Path.{_≡_, refl, ap, sym, _∙_}
-use mathlib.Core.List.{List, []}
-use Prim.Native.Nat.{ℕ, _+_, _-_, _≤_, _<_}
 use native.Mathlib.Omega.{arith}
 use borrow.Author.Needs.{needs}
 use lib.ListN.{length}
-use lib.IntN.{ℤ}
 use Rattle.rows.proofs.Fits.{Fit, fit}
 use Rattle.text.specs.Put.{put}
-use Rattle.text.specs.Written.{row}
 use Rattle.text.specs.Tally.{numbers-from, Ready}
 use Rattle.text.proofs.Put.{put-nil, put-length}
 use Rattle.text.proofs.Lined.{code-back}
-use Rattle.text.proofs.Small.{RowAt, row-from-at}
+use Rattle.text.proofs.Small.{row-from-at}
 use Rattle.text.proofs.Filled.{no-bad, row-fit, row-room, next-ready, next-put, none-left}
 use Rattle.text.proofs.passes.fill.Statement.{statement}
 use Rattle.text.proofs.passes.fill.Tie as tie
-use Rattle.text.proofs.passes.fill.Reads as reads
-use Rattle.text.proofs.passes.fill.Lts as lts
-use Rattle.text.proofs.passes.put_numbers.Reads as put-numbers-reads
-use Rattle.text.proofs.reader.row_at.Reads as row-at-reads
 
 abbrev Inv-loop : tie.InvT-loop
 Inv-loop text at out₀ place₀ i₀ out place i =
@@ -31,38 +26,32 @@ Inv-loop text at out₀ place₀ i₀ out place i =
 abbrev μ-loop : tie.MeasureT-loop
 μ-loop text at out₀ place₀ i₀ out place i = length text - place
 
--- src/passes.rt:98:5
 loop-holds : tie.Need-loop-holds Inv-loop μ-loop
 loop-holds c =
     let g = c .before in
     let z : length (g .args .out .now) - 0 ≡ length (g .args .out .now) = omega arith in
     (omega arith, omega arith, refl, rw z (g .pre .1), refl)
 
--- src/passes.rt:99:54
 row-at-requires : tie.Need-row-at-requires Inv-loop μ-loop
 row-at-requires c κs = search needs
 
--- src/passes.rt:99:26
 enum-known-from : tie.Need-enum-known-from Inv-loop μ-loop
 enum-known-from c = search needs
 
--- src/passes.rt:100:13
 enum-told : tie.Need-enum-told Inv-loop μ-loop
 enum-told c = search needs
 
--- src/passes.rt:100:13
 same-length : tie.Need-same-length Inv-loop μ-loop
 same-length c = c .before .before .before .before .loop .inv .2
 
--- src/passes.rt:100:13
 returns : tie.Need-returns Inv-loop μ-loop
 returns c =
     let b = c .before .before .before .before in
     let a = b .before .before .args in
     let r = c .before .before in
-    no-bad (a .text .now) (b .loop .place) _ (omega arith) (b .loop .inv .3) (sym (r .row-at .ensures) ∙ c .enum-told .given .1)
+    no-bad (a .text .now) (b .loop .place) _ (omega arith) (b .loop .inv .3)
+      (sym (r .row-at .ensures) ∙ c .enum-told .given .1)
 
--- src/passes.rt:102:9
 put-numbers-requires : tie.Need-put-numbers-requires Inv-loop μ-loop
 put-numbers-requires c κs =
     let v = c .before .before in
@@ -74,9 +63,9 @@ put-numbers-requires c κs =
     let e = sym (r .row-at .ensures) ∙ v .from .given .1 in
     let room = row-room t p _ (omega arith) ready _ _ _ _ _ e in
     let f : Fit _ = fit _ (row-fit t p _ (omega arith) ready _ _ _ _ _ e) in
-    (omega arith, omega (arith, f .from), f .terminal, omega (arith, f .to), omega (arith, f .production, code-back (v .from .given .0 .1 .1 .1 .0)))
+    (omega arith, omega (arith, f .from), f .terminal, omega (arith, f .to), omega
+      (arith, f .production, code-back (v .from .given .0 .1 .1 .1 .0)))
 
--- src/passes.rt:103:9
 add-i : tie.Need-add-i Inv-loop μ-loop
 add-i c =
     let v = c .before .before .before .before in
@@ -87,7 +76,6 @@ add-i c =
     let room = row-room t (b .loop .place) _ (omega arith) (b .loop .inv .3) _ _ _ _ _ e in
     omega arith
 
--- src/passes.rt:98:5
 loop-less : tie.Need-loop-less Inv-loop μ-loop
 loop-less c =
     let v = c .before .before .before .before in
@@ -97,7 +85,6 @@ loop-less c =
     let h = row-from-at t (b .loop .place) _ _ _ _ _ (sym (r .row-at .ensures) ∙ v .from .given .1) in
     omega (arith, h .later, h .inside)
 
--- src/passes.rt:98:5
 loop-again : tie.Need-loop-again Inv-loop μ-loop
 loop-again c =
     let w = c .before in
@@ -113,7 +100,8 @@ loop-again c =
     let q = w .put-numbers .ensures in
     let n : length (w .put-numbers .last .0) ≡ length (b .loop .out) =
         ap length q ∙ put-length (b .loop .out) (b .loop .i) _ (omega arith) in
-    let m : length (b .loop .out) - b .loop .i - 4 ≡ length (w .put-numbers .last .0) - (b .loop .i + 4) = omega arith in (
+    let m : length (b .loop .out) - b .loop .i - 4 ≡ length (w .put-numbers .last .0) - (b .loop .i + 4) =
+        omega arith in (
       h .inside,
       omega arith,
       omega arith,
@@ -121,11 +109,9 @@ loop-again c =
       next-put t p _ (omega arith) ready _ _ _ _ _ e (b .loop .out) _ (b .loop .i) (omega arith) q ∙ b .loop .inv .4,
     )
 
--- src/passes.rt:92:1
 same-length-2 : tie.Need-same-length-2 Inv-loop μ-loop
 same-length-2 c = c .before .loop .inv .2
 
--- src/passes.rt:92:1
 returns-2 : tie.Need-returns-2 Inv-loop μ-loop
 returns-2 c =
     let b = c .before in

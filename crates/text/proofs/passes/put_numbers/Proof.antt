@@ -1,84 +1,63 @@
-use mathlib.Core.Path.{_≡_, sym, _∙_}
+-- `text::passes::put_numbers` meets its contract. Four stores. Assumes nothing.
 use native.Mathlib.Omega.{arith}
+use borrow.Author.Needs.{needs}
 use lib.ListN.{length-set}
 use lib.IntN.{pos}
 use Rattle.paper.specs.Rows.{signed}
 use Rattle.rows.specs.Places.{uncoded}
 use Rattle.text.proofs.Put.{put-four}
 use Rattle.text.proofs.Filled.{stored, stored-code}
-use borrow.Author.Needs.{needs}
 use Rattle.text.proofs.passes.put_numbers.Statement.{statement}
 use Rattle.text.proofs.passes.put_numbers.Tie as tie
-use Rattle.text.proofs.passes.put_numbers.Reads as reads
-use Rattle.text.proofs.passes.put_numbers.Lts as lts
-use Rattle.rows.proofs.numbers.number_of.Reads as number-of-reads
-use Rattle.rows.proofs.numbers.production_of.Reads as production-of-reads
 
--- src/passes.rt:85:15
 number-of-requires : tie.Need-number-of-requires
 number-of-requires c κs = search needs
 
--- src/passes.rt:85:5
 mul-out : tie.Need-mul-out
 mul-out c = search needs
 
--- src/passes.rt:85:5
 slice-set-from-out : tie.Need-slice-set-from-out
 slice-set-from-out c = search needs
 
--- src/passes.rt:86:19
 number-of-requires-2 : tie.Need-number-of-requires-2
 number-of-requires-2 c κs = search needs
 
--- src/passes.rt:86:9
 add-out : tie.Need-add-out
 add-out c = search needs
 
--- src/passes.rt:86:5
 mul-out-2 : tie.Need-mul-out-2
 mul-out-2 c = search needs
 
--- src/passes.rt:86:5
 slice-set-from-out-2 : tie.Need-slice-set-from-out-2
 slice-set-from-out-2 c = simp length-set (omega arith)
 
--- src/passes.rt:87:19
 number-of-requires-3 : tie.Need-number-of-requires-3
 number-of-requires-3 c κs = search needs
 
--- src/passes.rt:87:9
 add-out-2 : tie.Need-add-out-2
 add-out-2 c = search needs
 
--- src/passes.rt:87:5
 mul-out-3 : tie.Need-mul-out-3
 mul-out-3 c = search needs
 
--- src/passes.rt:87:5
 slice-set-from-out-3 : tie.Need-slice-set-from-out-3
 slice-set-from-out-3 c = simp length-set (omega arith)
 
--- src/passes.rt:88:19
 production-of-requires : tie.Need-production-of-requires
 production-of-requires c κs = search needs
 
--- src/passes.rt:88:9
 add-t8 : tie.Need-add-t8
 add-t8 c = search needs
 
--- src/passes.rt:88:5
 mul-t10 : tie.Need-mul-t10
 mul-t10 c = search needs
 
--- src/passes.rt:88:5
 slice-set-from-out-4 : tie.Need-slice-set-from-out-4
 slice-set-from-out-4 c = simp length-set (omega arith)
 
--- src/passes.rt:81:1
 same-length : tie.Need-same-length
 same-length c = search needs
 
--- src/passes.rt:81:1
 returns : tie.Need-returns
 returns c =
     let g = c .before .before .before .before in
@@ -88,7 +67,8 @@ returns c =
     let e₃ = stored (a .to) _ (g .pre .3) (c .before .number-of3 .ensures) in
     let e₄ = stored-code (a .code) _ (g .pre .4) (c .production-of .ensures) in
     rw (e₁, e₂, e₃, e₄)
-    (put-four (a .out .now) (a .at) (pos (a .from)) (pos (a .on)) (pos (a .to)) (signed (uncoded (a .code))) (g .pre .0))
+    (put-four (a .out .now) (a .at) (pos (a .from)) (pos (a .on)) (pos (a .to)) (signed (uncoded (a .code)))
+      (g .pre .0))
 
 pub put-numbers-spec : {M : Type 1} → statement M
 put-numbers-spec =

@@ -1,38 +1,35 @@
-use mathlib.Core.Path.{_≡_, ap, _∙_}
+-- `text::passes::row_fits` meets its contract. By the bounds one after another. Assumes nothing.
 use Prim.Native.Nat.{ℕ}
+use mathlib.Core.Path.{ap, _∙_}
 use lib.Dec.{leb}
 use Rattle.rows.proofs.Fits.{from-out, terminal-out, to-out, production-left}
 use Rattle.text.specs.Written.{row}
 use Rattle.text.proofs.Lined.{code-back}
 use Rattle.text.proofs.passes.row_fits.Statement.{statement}
 use Rattle.text.proofs.passes.row_fits.Tie as tie
-use Rattle.text.proofs.passes.row_fits.Reads as reads
-use Rattle.text.proofs.passes.row_fits.Lts as lts
 
--- src/passes.rt:40:9
 returns : tie.Need-returns
 returns c =
     let a = c .before .args in
     from-out (row (a .from) (a .on) (a .to) (a .code)) (c .if1 .taken)
 
--- src/passes.rt:43:9
 returns-2 : tie.Need-returns-2
 returns-2 c =
     let a = c .before .before .args in
     terminal-out (row (a .from) (a .on) (a .to) (a .code)) (c .before .if1 .left) (c .if2 .taken)
 
--- src/passes.rt:46:9
 returns-3 : tie.Need-returns-3
 returns-3 c =
     let a = c .before .before .before .args in
-    to-out (row (a .from) (a .on) (a .to) (a .code)) (c .before .before .if1 .left) (c .before .if2 .left) (c .if3 .taken)
+    to-out (row (a .from) (a .on) (a .to) (a .code)) (c .before .before .if1 .left) (c .before .if2 .left)
+      (c .if3 .taken)
 
--- src/passes.rt:36:1
 returns-4 : tie.Need-returns-4
 returns-4 c =
     let a = c .before .before .before .args in
     ap (λ (n : ℕ). leb n 65536) (code-back (a .code))
-    ∙ production-left (row (a .from) (a .on) (a .to) (a .code)) (c .before .before .if1 .left) (c .before .if2 .left) (c .if3 .left)
+    ∙ production-left (row (a .from) (a .on) (a .to) (a .code)) (c .before .before .if1 .left) (c .before .if2 .left)
+      (c .if3 .left)
 
 pub row-fits-spec : {M : Type 1} → statement M
 row-fits-spec = tie.close (tie.spec returns returns-2 returns-3 returns-4)

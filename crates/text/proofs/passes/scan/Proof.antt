@@ -1,19 +1,16 @@
+-- `text::passes::scan` meets its contract. The loop's invariant: the rows from the place on, after the tally so far,
+-- make the tally asked for. Assumes nothing.
+use Prim.Native.Nat.{_+_, _-_, _≤_}
 use mathlib.Core.Path.{_≡_, refl, ap, sym, _∙_}
-use Prim.Native.Nat.{ℕ, _+_, _-_, _≤_, _<_}
 use native.Mathlib.Omega.{arith}
 use borrow.Author.Needs.{needs}
 use lib.ListN.{length}
 use Rattle.text.specs.declared.passes.Tally.{Tally}
-use Rattle.text.specs.Written.{row}
 use Rattle.text.specs.Tally.{tally-from, tallied}
-use Rattle.text.proofs.Small.{RowAt, row-from-at}
+use Rattle.text.proofs.Small.{row-from-at}
 use Rattle.text.proofs.Tallied.{tally-row, tally-bad, tally-end, tallied-rows}
 use Rattle.text.proofs.passes.scan.Statement.{statement}
 use Rattle.text.proofs.passes.scan.Tie as tie
-use Rattle.text.proofs.passes.scan.Reads as reads
-use Rattle.text.proofs.passes.scan.Lts as lts
-use Rattle.text.proofs.passes.tallied.Reads as tallied-reads
-use Rattle.text.proofs.reader.row_at.Reads as row-at-reads
 
 abbrev Inv-loop : tie.InvT-loop
 Inv-loop text at tally₀ place₀ tally place =
@@ -22,23 +19,18 @@ Inv-loop text at tally₀ place₀ tally place =
 abbrev μ-loop : tie.MeasureT-loop
 μ-loop text at tally₀ place₀ tally place = length text - place
 
--- src/passes.rt:69:5
 loop-holds : tie.Need-loop-holds Inv-loop μ-loop
 loop-holds c = (omega arith, omega arith, refl)
 
--- src/passes.rt:70:54
 row-at-requires : tie.Need-row-at-requires Inv-loop μ-loop
 row-at-requires c κs = search needs
 
--- src/passes.rt:70:26
 enum-known-from : tie.Need-enum-known-from Inv-loop μ-loop
 enum-known-from c = search needs
 
--- src/passes.rt:71:13
 enum-told : tie.Need-enum-told Inv-loop μ-loop
 enum-told c = search needs
 
--- src/passes.rt:71:13
 returns : tie.Need-returns Inv-loop μ-loop
 returns c =
     let b = c .before .before .before .before in
@@ -47,7 +39,6 @@ returns c =
     let e = sym (r .row-at .ensures) ∙ c .enum-told .given .1 in
     sym (b .loop .inv .2 ∙ tally-bad (a .text .now) (b .loop .place) (b .loop .tally) (omega arith) e)
 
--- src/passes.rt:73:9
 tallied-requires : tie.Need-tallied-requires Inv-loop μ-loop
 tallied-requires c κs =
     let v = c .before in
@@ -58,7 +49,6 @@ tallied-requires c κs =
     let h = row-from-at (a .text .now) (b .loop .place) _ _ _ _ _ e in
     (omega arith, h .small .from, h .small .on)
 
--- src/passes.rt:69:5
 loop-less : tie.Need-loop-less Inv-loop μ-loop
 loop-less c =
     let v = c .before .before in
@@ -69,7 +59,6 @@ loop-less c =
     let h = row-from-at (a .text .now) (b .loop .place) _ _ _ _ _ e in
     omega (arith, h .later, h .inside)
 
--- src/passes.rt:69:5
 loop-again : tie.Need-loop-again Inv-loop μ-loop
 loop-again c =
     let v = c .before .before in
@@ -87,7 +76,6 @@ loop-again c =
       ∙ rw (← c .tallied .ensures),
     )
 
--- src/passes.rt:63:1
 returns-2 : tie.Need-returns-2 Inv-loop μ-loop
 returns-2 c =
     let b = c .before in

@@ -1,6 +1,7 @@
-use native.Mathlib.Numerals.{add-one}
-use mathlib.Core.Path.{_≡_, refl, ap, sym, _∙_}
-use Prim.Native.Nat.{ℕ, suc, _+_, _-_, _≤_}
+-- `text::pieces::digit_count` meets its contract. The loop's invariant: the digits passed and those from there on
+-- are all of them. Assumes nothing.
+use Prim.Native.Nat.{suc, _+_, _-_, _≤_}
+use mathlib.Core.Path.{_≡_}
 use native.Mathlib.Omega.{arith}
 use native.Mathlib.Nat.{add-zero}
 use lib.ListN.{length, drop}
@@ -8,8 +9,6 @@ use Rattle.paper.specs.Text.{digit-count}
 use Rattle.text.proofs.Numbers.{digits-end, digits-next, digits-low, digits-high}
 use Rattle.text.proofs.pieces.digit_count.Statement.{statement}
 use Rattle.text.proofs.pieces.digit_count.Tie as tie
-use Rattle.text.proofs.pieces.digit_count.Reads as reads
-use Rattle.text.proofs.pieces.digit_count.Lts as lts
 
 abbrev Inv-loop : tie.InvT-loop
 Inv-loop line at n₀ n =
@@ -18,23 +17,18 @@ Inv-loop line at n₀ n =
 abbrev μ-loop : tie.MeasureT-loop
 μ-loop line at n₀ n = length line - (at + n)
 
--- src/pieces.rt:38:5
 loop-holds : tie.Need-loop-holds Inv-loop μ-loop
 loop-holds c = (omega arith, rw (add-zero (c .args .at)) (omega arith))
 
--- src/pieces.rt:38:11
 add-loop : tie.Need-add-loop Inv-loop μ-loop
 add-loop c = omega arith
 
--- src/pieces.rt:39:22
 add-b : tie.Need-add-b Inv-loop μ-loop
 add-b c = omega arith
 
--- src/pieces.rt:39:17
 shared-slice-read-b : tie.Need-shared-slice-read-b Inv-loop μ-loop
 shared-slice-read-b c = omega arith
 
--- src/pieces.rt:41:13
 returns : tie.Need-returns Inv-loop μ-loop
 returns c =
     let b = c .before .before .before in
@@ -42,7 +36,6 @@ returns c =
     let e = digits-low (a .line .now) (a .at + b .loop .n) (omega arith) (c .if1 .taken) in
     (omega arith, omega arith)
 
--- src/pieces.rt:44:13
 returns-2 : tie.Need-returns-2 Inv-loop μ-loop
 returns-2 c =
     let b = c .before .before .before .before in
@@ -50,15 +43,12 @@ returns-2 c =
     let e = digits-high (a .line .now) (a .at + b .loop .n) (omega arith) (c .if2 .taken) in
     (omega arith, omega arith)
 
--- src/pieces.rt:46:9
 add-n : tie.Need-add-n Inv-loop μ-loop
 add-n c = omega arith
 
--- src/pieces.rt:38:5
 loop-less : tie.Need-loop-less Inv-loop μ-loop
 loop-less c = omega arith
 
--- src/pieces.rt:38:5
 loop-again : tie.Need-loop-again Inv-loop μ-loop
 loop-again c =
     let b = c .before .before .before .before in
@@ -68,7 +58,6 @@ loop-again c =
     let e = digits-next (a .line .now) k (omega arith) (c .before .if1 .left) (c .if2 .left) in
     (omega arith, rw s (omega arith))
 
--- src/pieces.rt:33:1
 returns-3 : tie.Need-returns-3 Inv-loop μ-loop
 returns-3 c =
     let b = c .before in

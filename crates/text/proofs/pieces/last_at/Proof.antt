@@ -1,31 +1,25 @@
-use mathlib.Core.Path.{_≡_, sym, _∙_}
+-- `text::pieces::last_at` meets its contract. A word, then a production. Assumes nothing.
+use mathlib.Core.Path.{sym, _∙_}
 use borrow.Author.Tests.{not-true, not-false}
+use borrow.Author.Needs.{needs}
 use Rattle.text.proofs.Starts.{starts-within}
 use Rattle.text.proofs.Forms.{last-not, last-so}
-use borrow.Author.Needs.{needs}
 use Rattle.text.proofs.pieces.last_at.Statement.{statement}
 use Rattle.text.proofs.pieces.last_at.Tie as tie
-use Rattle.text.proofs.pieces.last_at.Reads as reads
-use Rattle.text.proofs.pieces.last_at.Lts as lts
-use Rattle.text.proofs.pieces.production_at.Reads as production-at-reads
-use Rattle.text.proofs.pieces.word_at.Reads as word-at-reads
 
--- src/pieces.rt:115:9
 word-at-requires : tie.Need-word-at-requires
 word-at-requires c κs = search needs
 
--- src/pieces.rt:116:9
 returns : tie.Need-returns
 returns c =
     let w = c .before in
     let a = w .before .before .before .args in
-    last-not (a .line .now) (a .at) (a .word .now) (sym (w .word-at .ensures) ∙ not-true (w .word-at .result) (c .if1 .taken))
+    last-not (a .line .now) (a .at) (a .word .now)
+      (sym (w .word-at .ensures) ∙ not-true (w .word-at .result) (c .if1 .taken))
 
--- src/pieces.rt:118:25
 add-production-at : tie.Need-add-production-at
 add-production-at c = search needs
 
--- src/pieces.rt:118:5
 production-at-requires : tie.Need-production-at-requires
 production-at-requires c κs =
     let w = c .before in
@@ -34,7 +28,6 @@ production-at-requires c κs =
     starts-within (a .word .now) (a .line .now) (a .at) (g .pre)
     (sym (w .word-at .ensures) ∙ not-false (w .word-at .result) (c .if1 .left))
 
--- src/pieces.rt:111:1
 returns-2 : tie.Need-returns-2
 returns-2 c =
     let w = c .before .before in

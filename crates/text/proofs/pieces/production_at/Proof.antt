@@ -1,48 +1,35 @@
-use mathlib.Core.Path.{_≡_, ap, sym, _∙_}
+-- `text::pieces::production_at` meets its contract. -1, or a number. Assumes nothing.
+use mathlib.Core.Path.{sym, _∙_}
 use native.Mathlib.Omega.{arith}
-use native.Mathlib.Numerals.{add-one}
-use Rattle.text.specs.Pieces.{as-code}
-use Rattle.text.proofs.Forms.{production-none, production-bad, production-some, number-within}
 use borrow.Author.Needs.{needs}
+use Rattle.text.proofs.Forms.{production-none, production-bad, production-some, number-within}
 use Rattle.text.proofs.pieces.production_at.Statement.{statement}
 use Rattle.text.proofs.pieces.production_at.Tie as tie
-use Rattle.text.proofs.pieces.production_at.Reads as reads
-use Rattle.text.proofs.pieces.production_at.Lts as lts
-use Rattle.text.proofs.pieces.number_at.Reads as number-at-reads
-use Rattle.text.proofs.pieces.word_at.Reads as word-at-reads
 
--- src/pieces.rt:90:26
 slice-aggregate-word-at : tie.Need-slice-aggregate-word-at
 slice-aggregate-word-at c = search needs
 
--- src/pieces.rt:90:8
 word-at-requires : tie.Need-word-at-requires
 word-at-requires c κs = search needs
 
--- src/pieces.rt:91:30
 add-t9 : tie.Need-add-t9
 add-t9 c = search needs
 
--- src/pieces.rt:91:9
 returns : tie.Need-returns
 returns c =
     let w = c .before in
     let a = w .before .before .before .args in
     production-none (a .line .now) (a .at) (sym (w .word-at .ensures) ∙ c .if1 .taken)
 
--- src/pieces.rt:93:31
 number-at-requires : tie.Need-number-at-requires
 number-at-requires c κs = search needs
 
--- src/pieces.rt:93:20
 enum-known-n : tie.Need-enum-known-n
 enum-known-n c = search needs
 
--- src/pieces.rt:94:9
 enum-told : tie.Need-enum-told
 enum-told c = search needs
 
--- src/pieces.rt:94:9
 returns-2 : tie.Need-returns-2
 returns-2 c =
     let n = c .before .before in
@@ -51,7 +38,6 @@ returns-2 c =
     production-bad (a .line .now) (a .at) (sym (w .word-at .ensures) ∙ n .before .if1 .left)
     (sym (n .number-at .ensures) ∙ c .enum-told .given .1)
 
--- src/pieces.rt:96:16
 add-t11 : tie.Need-add-t11
 add-t11 c =
     let n = c .before .before .before in
@@ -60,7 +46,6 @@ add-t11 c =
     let h = number-within (g .args .line .now) (g .args .at) _ _ (g .pre) e in
     omega (arith, h .small)
 
--- src/pieces.rt:86:1
 returns-3 : tie.Need-returns-3
 returns-3 c =
     let n = c .before .before .before in

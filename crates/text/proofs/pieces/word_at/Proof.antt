@@ -1,5 +1,7 @@
-use mathlib.Core.Path.{_≡_, refl, ap, sym, _∙_}
-use Prim.Native.Nat.{ℕ, suc, _+_, _-_, _≤_}
+-- `text::pieces::word_at` meets its contract. The loop's invariant: what is left of the word is to stand at what is
+-- left of the line. Assumes nothing.
+use Prim.Native.Nat.{suc, _+_, _-_, _≤_}
+use mathlib.Core.Path.{_≡_, _∙_}
 use native.Mathlib.Omega.{arith}
 use native.Mathlib.Nat.{add-zero}
 use native.Mathlib.Numerals.{add-one}
@@ -8,8 +10,6 @@ use Rattle.paper.specs.Text.{past}
 use Rattle.text.proofs.Starts.{word-all, word-short, word-next, word-differs, starts-not, starts-so}
 use Rattle.text.proofs.pieces.word_at.Statement.{statement}
 use Rattle.text.proofs.pieces.word_at.Tie as tie
-use Rattle.text.proofs.pieces.word_at.Reads as reads
-use Rattle.text.proofs.pieces.word_at.Lts as lts
 
 abbrev Inv-loop : tie.InvT-loop
 Inv-loop line at word i₀ i =
@@ -18,51 +18,43 @@ Inv-loop line at word i₀ i =
 abbrev μ-loop : tie.MeasureT-loop
 μ-loop line at word i₀ i = length word - i
 
--- src/pieces.rt:20:5
 loop-holds : tie.Need-loop-holds Inv-loop μ-loop
 loop-holds c = (omega arith, omega arith, rw (add-zero (c .args .at)))
 
--- src/pieces.rt:21:26
 add-if1 : tie.Need-add-if1 Inv-loop μ-loop
 add-if1 c = omega arith
 
--- src/pieces.rt:22:13
 returns : tie.Need-returns Inv-loop μ-loop
 returns c =
     let b = c .before .before in
     let a = b .before .args in
     starts-not (a .word .now) (drop (a .at) (a .line .now))
-    (b .loop .inv .2 ∙ word-short (a .word .now) (a .line .now) (b .loop .i) (a .at + b .loop .i) (omega arith) (c .if1 .taken))
+    (b .loop .inv .2 ∙ word-short (a .word .now) (a .line .now) (b .loop .i) (a .at + b .loop .i) (omega arith)
+      (c .if1 .taken))
 
--- src/pieces.rt:24:12
 shared-slice-read-if2 : tie.Need-shared-slice-read-if2 Inv-loop μ-loop
 shared-slice-read-if2 c = omega arith
 
--- src/pieces.rt:24:28
 add-if2 : tie.Need-add-if2 Inv-loop μ-loop
 add-if2 c = omega arith
 
--- src/pieces.rt:24:23
 shared-slice-read-if2-2 : tie.Need-shared-slice-read-if2-2 Inv-loop μ-loop
 shared-slice-read-if2-2 c = omega arith
 
--- src/pieces.rt:25:13
 returns-2 : tie.Need-returns-2 Inv-loop μ-loop
 returns-2 c =
     let b = c .before .before .before .before .before in
     let a = b .before .args in
     starts-not (a .word .now) (drop (a .at) (a .line .now))
-    (b .loop .inv .2 ∙ word-differs (a .word .now) (a .line .now) (b .loop .i) (a .at + b .loop .i) (omega arith) (omega arith) (c .if2 .taken))
+    (b .loop .inv .2 ∙ word-differs (a .word .now) (a .line .now) (b .loop .i) (a .at + b .loop .i) (omega arith)
+      (omega arith) (c .if2 .taken))
 
--- src/pieces.rt:27:9
 add-i : tie.Need-add-i Inv-loop μ-loop
 add-i c = omega arith
 
--- src/pieces.rt:20:5
 loop-less : tie.Need-loop-less Inv-loop μ-loop
 loop-less c = omega arith
 
--- src/pieces.rt:20:5
 loop-again : tie.Need-loop-again Inv-loop μ-loop
 loop-again c =
     let b = c .before .before .before .before .before in
@@ -71,11 +63,11 @@ loop-again c =
       omega arith,
       omega arith,
       b .loop .inv .2
-      ∙ word-next (a .word .now) (a .line .now) (b .loop .i) (a .at + b .loop .i) (omega arith) (omega arith) (c .if2 .left)
+      ∙ word-next (a .word .now) (a .line .now) (b .loop .i) (a .at + b .loop .i) (omega arith) (omega arith)
+        (c .if2 .left)
       ∙ rw (s, add-one (b .loop .i)),
     )
 
--- src/pieces.rt:15:1
 returns-3 : tie.Need-returns-3 Inv-loop μ-loop
 returns-3 c =
     let b = c .before in

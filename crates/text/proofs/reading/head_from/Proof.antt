@@ -1,41 +1,30 @@
-use Rattle.text.proofs.Ended.{head-unended, head-ended}
+-- `text::reading::head_from` meets its contract. A line with its LF, or none. Assumes nothing.
 use borrow.Author.Needs.{needs}
+use Rattle.text.proofs.Ended.{head-unended, head-ended}
 use Rattle.text.proofs.reading.head_from.Statement.{statement}
 use Rattle.text.proofs.reading.head_from.Tie as tie
-use Rattle.text.proofs.reading.head_from.Reads as reads
-use Rattle.text.proofs.reading.head_from.Lts as lts
-use Rattle.text.proofs.reading.head_of.Reads as head-of-reads
-use Rattle.text.proofs.reading.line_end.Reads as line-end-reads
 
--- src/reading.rt:89:9
 line-end-requires : tie.Need-line-end-requires
 line-end-requires c κs = search needs
 
--- src/reading.rt:91:9
 returns : tie.Need-returns
 returns c = head-unended _ _ _ (c .before .line-end .ensures .0) (c .if1 .taken)
 
--- src/reading.rt:93:13
 sub-head-of : tie.Need-sub-head-of
 sub-head-of c = search needs
 
--- src/reading.rt:93:13
 part-head-of-start : tie.Need-part-head-of-start
 part-head-of-start c = search needs
 
--- src/reading.rt:93:13
 part-head-of-end : tie.Need-part-head-of-end
 part-head-of-end c = search needs
 
--- src/reading.rt:93:29
 add-head-of : tie.Need-add-head-of
 add-head-of c = search needs
 
--- src/reading.rt:93:5
 head-of-requires : tie.Need-head-of-requires
 head-of-requires c κs = search needs
 
--- src/reading.rt:86:1
 returns-2 : tie.Need-returns-2
 returns-2 c =
     let i = c .before .before in

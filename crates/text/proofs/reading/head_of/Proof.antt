@@ -1,45 +1,35 @@
-use mathlib.Core.Path.{_≡_, sym, _∙_}
+-- `text::reading::head_of` meets its contract. The pieces one after another, each at the place where the one before
+-- it ended. Assumes nothing.
+use mathlib.Core.Path.{sym, _∙_}
 use native.Mathlib.Omega.{arith}
 use borrow.Author.Tests.{not-true, not-false}
+use borrow.Author.Needs.{needs}
 use Rattle.text.proofs.Forms.{field-within, last-within}
 use Rattle.text.proofs.Rowed.{dfa, comma, head-first, head-second, head-unended, head-whole}
-use borrow.Author.Needs.{needs}
 use Rattle.text.proofs.reading.head_of.Statement.{statement}
 use Rattle.text.proofs.reading.head_of.Tie as tie
-use Rattle.text.proofs.reading.head_of.Reads as reads
-use Rattle.text.proofs.reading.head_of.Lts as lts
-use Rattle.text.proofs.pieces.ends_at.Reads as ends-at-reads
-use Rattle.text.proofs.pieces.field_at.Reads as field-at-reads
-use Rattle.text.proofs.pieces.last_at.Reads as last-at-reads
 
--- src/reading.rt:48:56
 slice-aggregate-last-at : tie.Need-slice-aggregate-last-at
 slice-aggregate-last-at c = search needs
 
--- src/reading.rt:48:31
 last-at-requires : tie.Need-last-at-requires
 last-at-requires c κs = search needs
 
--- src/reading.rt:48:20
 enum-known-code : tie.Need-enum-known-code
 enum-known-code c = search needs
 
--- src/reading.rt:49:9
 enum-told : tie.Need-enum-told
 enum-told c = search needs
 
--- src/reading.rt:49:9
 returns : tie.Need-returns
 returns c =
     let p = c .before .before in
     let a = p .before .before .before .args in
     head-first (a .line .now) (a .next) (sym (p .last-at .ensures) ∙ c .enum-told .given .1)
 
--- src/reading.rt:51:54
 slice-aggregate-field-at : tie.Need-slice-aggregate-field-at
 slice-aggregate-field-at c = search needs
 
--- src/reading.rt:51:28
 field-at-requires : tie.Need-field-at-requires
 field-at-requires c κs =
     let v = c .before .before in
@@ -47,15 +37,12 @@ field-at-requires c κs =
     let a = p .before .before .before .args in
     last-within (a .line .now) 0 dfa _ _ (omega arith) (sym (p .last-at .ensures) ∙ v .code .given .1) .inside
 
--- src/reading.rt:51:20
 enum-known-k : tie.Need-enum-known-k
 enum-known-k c = search needs
 
--- src/reading.rt:52:9
 enum-told-2 : tie.Need-enum-told-2
 enum-told-2 c = search needs
 
--- src/reading.rt:52:9
 returns-2 : tie.Need-returns-2
 returns-2 c =
     let n = c .before .before in
@@ -65,11 +52,9 @@ returns-2 c =
     head-second (a .line .now) (a .next) (sym (p .last-at .ensures) ∙ v .code .given .1)
     (sym (n .field-at .ensures) ∙ c .enum-told2 .given .1)
 
--- src/reading.rt:54:34
 slice-aggregate-ends-at : tie.Need-slice-aggregate-ends-at
 slice-aggregate-ends-at c = search needs
 
--- src/reading.rt:54:9
 ends-at-requires : tie.Need-ends-at-requires
 ends-at-requires c κs =
     let w = c .before .before in
@@ -80,7 +65,6 @@ ends-at-requires c κs =
     let h = last-within (a .line .now) 0 dfa _ _ (omega arith) (sym (p .last-at .ensures) ∙ v .code .given .1) in
     field-within (a .line .now) _ comma _ _ (h .inside) (sym (n .field-at .ensures) ∙ w .k .given .1) .inside
 
--- src/reading.rt:55:9
 returns-3 : tie.Need-returns-3
 returns-3 c =
     let e = c .before in
@@ -94,7 +78,6 @@ returns-3 c =
     (sym (n .field-at .ensures) ∙ w .k .given .1)
     (sym (e .ends-at .ensures) ∙ not-true (e .ends-at .result) (c .if1 .taken))
 
--- src/reading.rt:45:1
 returns-4 : tie.Need-returns-4
 returns-4 c =
     let e = c .before in

@@ -1,5 +1,7 @@
-use mathlib.Core.Path.{_≡_, refl, sym, _∙_}
-use Prim.Native.Nat.{ℕ, _+_, _-_, _≤_}
+-- `text::reading::line_end` meets its contract. The loop's invariant: the line ends where it ends from here on.
+-- Assumes nothing.
+use Prim.Native.Nat.{_-_, _≤_}
+use mathlib.Core.Path.{_≡_, refl, _∙_}
 use native.Mathlib.Omega.{arith}
 use native.Mathlib.Numerals.{add-one}
 use lib.ListN.{length}
@@ -7,8 +9,6 @@ use Rattle.text.specs.Reading.{line-end}
 use Rattle.text.proofs.Ended.{end-none, end-here, end-next}
 use Rattle.text.proofs.reading.line_end.Statement.{statement}
 use Rattle.text.proofs.reading.line_end.Tie as tie
-use Rattle.text.proofs.reading.line_end.Reads as reads
-use Rattle.text.proofs.reading.line_end.Lts as lts
 
 abbrev Inv-loop : tie.InvT-loop
 Inv-loop text at end₀ end = (at ≤ end) × (line-end text at ≡ line-end text end)
@@ -16,15 +16,12 @@ Inv-loop text at end₀ end = (at ≤ end) × (line-end text at ≡ line-end tex
 abbrev μ-loop : tie.MeasureT-loop
 μ-loop text at end₀ end = length text - end
 
--- src/reading.rt:65:5
 loop-holds : tie.Need-loop-holds Inv-loop μ-loop
 loop-holds c = (omega arith, refl)
 
--- src/reading.rt:66:12
 shared-slice-read-if1 : tie.Need-shared-slice-read-if1 Inv-loop μ-loop
 shared-slice-read-if1 c = omega arith
 
--- src/reading.rt:67:13
 returns : tie.Need-returns Inv-loop μ-loop
 returns c =
     let b = c .before .before .before in
@@ -32,24 +29,21 @@ returns c =
     let e = end-here (a .text .now) (b .loop .end) (omega arith) (c .if1 .taken) in
     (omega arith, omega arith)
 
--- src/reading.rt:69:9
 add-end : tie.Need-add-end Inv-loop μ-loop
 add-end c = omega arith
 
--- src/reading.rt:65:5
 loop-less : tie.Need-loop-less Inv-loop μ-loop
 loop-less c = omega arith
 
--- src/reading.rt:65:5
 loop-again : tie.Need-loop-again Inv-loop μ-loop
 loop-again c =
     let b = c .before .before .before in
     let a = b .before .args in (
       omega arith,
-      b .loop .inv .1 ∙ end-next (a .text .now) (b .loop .end) (omega arith) (c .if1 .left) ∙ rw (← add-one (b .loop .end)),
+      b .loop .inv .1 ∙ end-next (a .text .now) (b .loop .end) (omega arith) (c .if1 .left)
+      ∙ rw (← add-one (b .loop .end)),
     )
 
--- src/reading.rt:61:1
 returns-2 : tie.Need-returns-2 Inv-loop μ-loop
 returns-2 c =
     let b = c .before in

@@ -1,34 +1,27 @@
-use mathlib.Core.Path.{_≡_, sym, _∙_}
+-- `text::reading::row_of` meets its contract. The pieces one after another, each at the place where the one before
+-- it ended. Assumes nothing.
+use mathlib.Core.Path.{sym, _∙_}
 use native.Mathlib.Omega.{arith}
 use borrow.Author.Tests.{not-true, not-false}
-use Rattle.text.proofs.Forms.{field-within, last-within}
-use Rattle.text.proofs.Rowed.{trans, comma, row-first, row-second, row-third, row-fourth, row-unended, row-whole}
 use borrow.Author.Needs.{needs}
+use Rattle.text.proofs.Forms.{field-within, last-within}
+use Rattle.text.proofs.Rowed.{trans, comma, row-first, row-second, row-third, row-fourth, row-unended,
+  row-whole}
 use Rattle.text.proofs.reading.row_of.Statement.{statement}
 use Rattle.text.proofs.reading.row_of.Tie as tie
-use Rattle.text.proofs.reading.row_of.Reads as reads
-use Rattle.text.proofs.reading.row_of.Lts as lts
-use Rattle.text.proofs.pieces.ends_at.Reads as ends-at-reads
-use Rattle.text.proofs.pieces.field_at.Reads as field-at-reads
-use Rattle.text.proofs.pieces.last_at.Reads as last-at-reads
 
--- src/reading.rt:26:57
 slice-aggregate-field-at : tie.Need-slice-aggregate-field-at
 slice-aggregate-field-at c = search needs
 
--- src/reading.rt:26:31
 field-at-requires : tie.Need-field-at-requires
 field-at-requires c κs = search needs
 
--- src/reading.rt:26:20
 enum-known-from : tie.Need-enum-known-from
 enum-known-from c = search needs
 
--- src/reading.rt:27:9
 enum-told : tie.Need-enum-told
 enum-told c = search needs
 
--- src/reading.rt:27:9
 returns : tie.Need-returns
 returns c =
     let n1 = c .before .before in
@@ -36,11 +29,9 @@ returns c =
     row-first (a .line .now) (a .next)
     (sym (n1 .field-at .ensures) ∙ c .enum-told .given .1)
 
--- src/reading.rt:29:55
 slice-aggregate-field-at-2 : tie.Need-slice-aggregate-field-at-2
 slice-aggregate-field-at-2 c = search needs
 
--- src/reading.rt:29:29
 field-at-requires-2 : tie.Need-field-at-requires-2
 field-at-requires-2 c κs =
     let v1 = c .before .before in
@@ -48,15 +39,12 @@ field-at-requires-2 c κs =
     let a = n1 .before .before .before .args in
     field-within (a .line .now) 0 trans _ _ (omega arith) (sym (n1 .field-at .ensures) ∙ v1 .from .given .1) .inside
 
--- src/reading.rt:29:20
 enum-known-on : tie.Need-enum-known-on
 enum-known-on c = search needs
 
--- src/reading.rt:30:9
 enum-told-2 : tie.Need-enum-told-2
 enum-told-2 c = search needs
 
--- src/reading.rt:30:9
 returns-2 : tie.Need-returns-2
 returns-2 c =
     let n2 = c .before .before in
@@ -67,11 +55,9 @@ returns-2 c =
     (sym (n1 .field-at .ensures) ∙ v1 .from .given .1)
     (sym (n2 .field-at2 .ensures) ∙ c .enum-told2 .given .1)
 
--- src/reading.rt:32:55
 slice-aggregate-field-at-3 : tie.Need-slice-aggregate-field-at-3
 slice-aggregate-field-at-3 c = search needs
 
--- src/reading.rt:32:29
 field-at-requires-3 : tie.Need-field-at-requires-3
 field-at-requires-3 c κs =
     let v2 = c .before .before in
@@ -82,15 +68,12 @@ field-at-requires-3 c κs =
     let h1 = field-within (a .line .now) 0 trans _ _ (omega arith) (sym (n1 .field-at .ensures) ∙ v1 .from .given .1) in
     field-within (a .line .now) _ comma _ _ (h1 .inside) (sym (n2 .field-at2 .ensures) ∙ v2 .on .given .1) .inside
 
--- src/reading.rt:32:20
 enum-known-to : tie.Need-enum-known-to
 enum-known-to c = search needs
 
--- src/reading.rt:33:9
 enum-told-3 : tie.Need-enum-told-3
 enum-told-3 c = search needs
 
--- src/reading.rt:33:9
 returns-3 : tie.Need-returns-3
 returns-3 c =
     let n3 = c .before .before in
@@ -104,11 +87,9 @@ returns-3 c =
     (sym (n2 .field-at2 .ensures) ∙ v2 .on .given .1)
     (sym (n3 .field-at3 .ensures) ∙ c .enum-told3 .given .1)
 
--- src/reading.rt:35:56
 slice-aggregate-last-at : tie.Need-slice-aggregate-last-at
 slice-aggregate-last-at c = search needs
 
--- src/reading.rt:35:31
 last-at-requires : tie.Need-last-at-requires
 last-at-requires c κs =
     let v3 = c .before .before in
@@ -122,15 +103,12 @@ last-at-requires c κs =
     let h2 = field-within (a .line .now) _ comma _ _ (h1 .inside) (sym (n2 .field-at2 .ensures) ∙ v2 .on .given .1) in
     field-within (a .line .now) _ comma _ _ (h2 .inside) (sym (n3 .field-at3 .ensures) ∙ v3 .to .given .1) .inside
 
--- src/reading.rt:35:20
 enum-known-code : tie.Need-enum-known-code
 enum-known-code c = search needs
 
--- src/reading.rt:36:9
 enum-told-4 : tie.Need-enum-told-4
 enum-told-4 c = search needs
 
--- src/reading.rt:36:9
 returns-4 : tie.Need-returns-4
 returns-4 c =
     let n4 = c .before .before in
@@ -147,11 +125,9 @@ returns-4 c =
     (sym (n3 .field-at3 .ensures) ∙ v3 .to .given .1)
     (sym (n4 .last-at .ensures) ∙ c .enum-told4 .given .1)
 
--- src/reading.rt:38:34
 slice-aggregate-ends-at : tie.Need-slice-aggregate-ends-at
 slice-aggregate-ends-at c = search needs
 
--- src/reading.rt:38:9
 ends-at-requires : tie.Need-ends-at-requires
 ends-at-requires c κs =
     let v4 = c .before .before in
@@ -168,7 +144,6 @@ ends-at-requires c κs =
     let h3 = field-within (a .line .now) _ comma _ _ (h2 .inside) (sym (n3 .field-at3 .ensures) ∙ v3 .to .given .1) in
     last-within (a .line .now) _ comma _ _ (h3 .inside) (sym (n4 .last-at .ensures) ∙ v4 .code .given .1) .inside
 
--- src/reading.rt:39:9
 returns-5 : tie.Need-returns-5
 returns-5 c =
     let e = c .before in
@@ -188,7 +163,6 @@ returns-5 c =
     (sym (n4 .last-at .ensures) ∙ v4 .code .given .1)
     (sym (e .ends-at .ensures) ∙ not-true (e .ends-at .result) (c .if1 .taken))
 
--- src/reading.rt:23:1
 returns-6 : tie.Need-returns-6
 returns-6 c =
     let e = c .before in

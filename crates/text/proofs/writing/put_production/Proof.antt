@@ -1,46 +1,36 @@
+-- `text::writing::put_production` meets its contract. 0 is -1, and any other code is one more than the number.
+-- Assumes nothing.
+use mathlib.Core.Path.{sym}
 use native.Mathlib.Omega.{arith}
-use mathlib.Core.Path.{_≡_, refl, ap, sym, _∙_}
-use Rattle.text.proofs.Written.{decimal-none, decimal-some, puts-as}
 use borrow.Author.Needs.{needs}
+use Rattle.text.proofs.Written.{decimal-none, decimal-some, puts-as}
 use Rattle.text.proofs.writing.put_production.Statement.{statement}
 use Rattle.text.proofs.writing.put_production.Tie as tie
-use Rattle.text.proofs.writing.put_production.Reads as reads
-use Rattle.text.proofs.writing.put_production.Lts as lts
-use Rattle.text.proofs.writing.put_number.Reads as put-number-reads
-use Rattle.text.proofs.writing.put_word.Reads as put-word-reads
 
--- src/writing.rt:71:34
 slice-aggregate-put-word : tie.Need-slice-aggregate-put-word
 slice-aggregate-put-word c = search needs
 
--- src/writing.rt:71:9
 put-word-requires : tie.Need-put-word-requires
 put-word-requires c κs = search needs
 
--- src/writing.rt:71:9
 same-length : tie.Need-same-length
 same-length c = search needs
 
--- src/writing.rt:71:9
 returns : tie.Need-returns
 returns c =
     let b = c .before .before in
     let p = puts-as (b .put-word .ensures) (sym (decimal-none _ (b .before .before .before .if1 .taken))) in
     record { place = p .place; within = omega arith; holds = p .holds }
 
--- src/writing.rt:73:25
 sub-put-number : tie.Need-sub-put-number
 sub-put-number c = search needs
 
--- src/writing.rt:73:5
 put-number-requires : tie.Need-put-number-requires
 put-number-requires c κs = search needs
 
--- src/writing.rt:66:1
 same-length-2 : tie.Need-same-length-2
 same-length-2 c = search needs
 
--- src/writing.rt:66:1
 returns-2 : tie.Need-returns-2
 returns-2 c =
     let b = c .before .before in

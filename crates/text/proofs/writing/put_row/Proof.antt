@@ -1,66 +1,49 @@
+-- `text::writing::put_row` meets its contract. Six writings, each from where the one before it ends. Assumes nothing.
+use native.Mathlib.Omega.{arith}
+use borrow.Author.Needs.{needs}
 use Rattle.paper.specs.Rows.{signed}
 use Rattle.rows.specs.Places.{uncoded}
 use Rattle.text.specs.Written.{row-text}
-use native.Mathlib.Omega.{arith}
 use Rattle.text.proofs.Written.{puts-on, puts-as, row-parts}
-use borrow.Author.Needs.{needs}
 use Rattle.text.proofs.writing.put_row.Statement.{statement}
 use Rattle.text.proofs.writing.put_row.Tie as tie
-use Rattle.text.proofs.writing.put_row.Reads as reads
-use Rattle.text.proofs.writing.put_row.Lts as lts
-use Rattle.text.proofs.writing.put_field.Reads as put-field-reads
-use Rattle.text.proofs.writing.put_production.Reads as put-production-reads
-use Rattle.text.proofs.writing.put_word.Reads as put-word-reads
 
--- src/writing.rt:101:32
 slice-aggregate-put-field : tie.Need-slice-aggregate-put-field
 slice-aggregate-put-field c = search needs
 
--- src/writing.rt:101:9
 put-field-requires : tie.Need-put-field-requires
 put-field-requires c κs = search needs
 
--- src/writing.rt:102:31
 slice-aggregate-put-field-2 : tie.Need-slice-aggregate-put-field-2
 slice-aggregate-put-field-2 c = search needs
 
--- src/writing.rt:102:9
 put-field-requires-2 : tie.Need-put-field-requires-2
 put-field-requires-2 c κs = search needs
 
--- src/writing.rt:103:31
 slice-aggregate-put-field-3 : tie.Need-slice-aggregate-put-field-3
 slice-aggregate-put-field-3 c = search needs
 
--- src/writing.rt:103:9
 put-field-requires-3 : tie.Need-put-field-requires-3
 put-field-requires-3 c κs = search needs
 
--- src/writing.rt:104:30
 slice-aggregate-put-word : tie.Need-slice-aggregate-put-word
 slice-aggregate-put-word c = search needs
 
--- src/writing.rt:104:9
 put-word-requires : tie.Need-put-word-requires
 put-word-requires c κs = search needs
 
--- src/writing.rt:105:9
 put-production-requires : tie.Need-put-production-requires
 put-production-requires c κs = search needs
 
--- src/writing.rt:106:22
 slice-aggregate-put-word-2 : tie.Need-slice-aggregate-put-word-2
 slice-aggregate-put-word-2 c = search needs
 
--- src/writing.rt:106:5
 put-word-requires-2 : tie.Need-put-word-requires-2
 put-word-requires-2 c κs = search needs
 
--- src/writing.rt:97:1
 same-length : tie.Need-same-length
 same-length c = search needs
 
--- src/writing.rt:97:1
 returns : tie.Need-returns
 unfolding row-text
 returns c =

@@ -1,9 +1,11 @@
+-- `text::writing::put_rows` meets its contract. The loop's invariant: with the rows from i on written, the output is
+-- the one asked for. Assumes nothing.
+use Prim.Native.Nat.{_+_, _-_, _*_, _/_, _≤_, _<_}
 use mathlib.Core.Path.{_≡_, refl, ap, sym, _∙_}
-use Prim.Native.Nat.{ℕ, _+_, _-_, _*_, _/_, _≤_, _<_}
+use mathlib.Core.List.{[]}
 use native.Mathlib.Omega.{arith}
-use mathlib.Core.List.{List, []}
 use lib.ListN.{length}
-use Rattle.paper.specs.Rows.{Row, rows-in}
+use Rattle.paper.specs.Rows.{rows-in}
 use Rattle.paper.specs.Checks.{row-fits}
 use Rattle.rows.specs.Places.{row-at, rest}
 use Rattle.rows.proofs.Rest.{every-at}
@@ -14,13 +16,6 @@ use Rattle.text.proofs.Put.{put-nil}
 use Rattle.text.proofs.Lined.{row-as, rows-none, turn-holds, turn-place}
 use Rattle.text.proofs.writing.put_rows.Statement.{statement}
 use Rattle.text.proofs.writing.put_rows.Tie as tie
-use Rattle.text.proofs.writing.put_rows.Reads as reads
-use Rattle.text.proofs.writing.put_rows.Lts as lts
-use Rattle.rows.proofs.numbers.code_at.Reads as code-at-reads
-use Rattle.rows.proofs.numbers.from_at.Reads as from-at-reads
-use Rattle.rows.proofs.numbers.terminal_at.Reads as terminal-at-reads
-use Rattle.rows.proofs.numbers.to_at.Reads as to-at-reads
-use Rattle.text.proofs.writing.put_row.Reads as put-row-reads
 
 abbrev Inv-loop : tie.InvT-loop
 Inv-loop out₀ at table n place₀ i₀ out place i =
@@ -34,27 +29,21 @@ Inv-loop out₀ at table n place₀ i₀ out place i =
 abbrev μ-loop : tie.MeasureT-loop
 μ-loop out₀ at table n place₀ i₀ out place i = n - i
 
--- src/writing.rt:117:5
 loop-holds : tie.Need-loop-holds Inv-loop μ-loop
 loop-holds c = (omega arith, refl, refl, omega arith, refl, refl)
 
--- src/writing.rt:118:13
 from-at-requires : tie.Need-from-at-requires Inv-loop μ-loop
 from-at-requires c κs = omega arith
 
--- src/writing.rt:119:13
 terminal-at-requires : tie.Need-terminal-at-requires Inv-loop μ-loop
 terminal-at-requires c κs = omega arith
 
--- src/writing.rt:120:13
 to-at-requires : tie.Need-to-at-requires Inv-loop μ-loop
 to-at-requires c κs = omega arith
 
--- src/writing.rt:121:13
 code-at-requires : tie.Need-code-at-requires Inv-loop μ-loop
 code-at-requires c κs = omega arith
 
--- src/writing.rt:122:9
 put-row-requires : tie.Need-put-row-requires Inv-loop μ-loop
 put-row-requires c κs =
     let d = c .before in
@@ -70,15 +59,12 @@ put-row-requires c κs =
       omega (arith, d .code-at .ensures .is, f .production),
     )
 
--- src/writing.rt:123:9
 add-i : tie.Need-add-i Inv-loop μ-loop
 add-i c = omega arith
 
--- src/writing.rt:117:5
 loop-less : tie.Need-loop-less Inv-loop μ-loop
 loop-less c = omega arith
 
--- src/writing.rt:117:5
 loop-again : tie.Need-loop-again Inv-loop μ-loop
 loop-again c =
     let w = c .before .before in
@@ -95,7 +81,8 @@ loop-again c =
           (d .before .before .terminal-at .ensures .is)
           (d .before .to-at .ensures .is)
           (d .code-at .ensures .is) in
-    let p : Puts (b .loop .out) (b .loop .place) 35 (row-text (row-at ns i)) (w .put-row .last .0) (w .put-row .result) =
+    let p : Puts (b .loop .out) (b .loop .place) 35 (row-text (row-at ns i)) (w .put-row .last .0)
+      (w .put-row .result) =
         rw r at (w .put-row .ensures) in
     let room : b .loop .place + 35 ≤ length (b .loop .out) = omega arith in (
       omega arith,
@@ -106,11 +93,9 @@ loop-again c =
       turn-holds ns i h (b .loop .out) _ (b .loop .place) _ p room ∙ b .loop .inv .5,
     )
 
--- src/writing.rt:110:1
 same-length : tie.Need-same-length Inv-loop μ-loop
 same-length c = c .before .loop .inv .2
 
--- src/writing.rt:110:1
 returns : tie.Need-returns Inv-loop μ-loop
 returns c =
     let a = c .before .before .before .args in

@@ -1,0 +1,26 @@
+-- Answers of two kinds are never one. Assumes nothing.
+use Prim.Native.Nat.{ℕ}
+use mathlib.Core.Path.{_≡_}
+use mathlib.Core.Option.{none, some}
+use mathlib.Core.List.{List}
+use native.Mathlib.Omega.{arith}
+use Rattle.paper.specs.Answers.{accept, refuse}
+use Rattle.text.specs.declared.pieces.Number.the-variants as number
+use Rattle.text.specs.declared.reading.RowLine.the-variants as row-line
+use Rattle.text.specs.declared.reading.HeadLine.the-variants as head-line
+
+module _ {P : Type 0} where
+  pub none-some : {A : Type 0} {a : A} → none ≡ some a → P
+  none-some {A} {a} e = let z : _≡_ {A = ℕ} 0 1 = cc in absurd (omega arith)
+
+  pub refuse-accept : {A : Type 0} {n : ℕ} {d : List ℕ} {a : A} → refuse n d ≡ accept a → P
+  refuse-accept e = let z : _≡_ {A = ℕ} 0 1 = cc in absurd (omega arith)
+
+  pub no-number : {v n : ℕ} → number.Bad ≡ number.Is v n → P
+  no-number e = let z : _≡_ {A = ℕ} 0 1 = cc in absurd (omega arith)
+
+  pub no-row : {f t g p n : ℕ} → row-line.Bad ≡ row-line.Row f t g p n → P
+  no-row e = let z : _≡_ {A = ℕ} 0 1 = cc in absurd (omega arith)
+
+  pub no-head : {p k n : ℕ} → head-line.Bad ≡ head-line.Head p k n → P
+  no-head e = let z : _≡_ {A = ℕ} 0 1 = cc in absurd (omega arith)
