@@ -1,1 +1,3 @@
 pub mod Demanded
+pub mod Identical
+pub mod Untouched

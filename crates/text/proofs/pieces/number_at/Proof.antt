@@ -17,7 +17,8 @@ returns c =
 returns-2 : tie.Need-returns-2
 returns-2 c =
     let d = c .before .before in
-    number-long _ _ _ (d .digit-count .ensures .0) (c .if2 .taken)
+    let a = d .before .before .args in
+    number-long (a .line .now) (a .at) (d .digit-count .result) (d .digit-count .ensures .0) (omega arith)
 
 shared-slice-read-if4 : tie.Need-shared-slice-read-if4
 shared-slice-read-if4 c = search needs
