@@ -1,9 +1,14 @@
 // What the Rust's reader is apt to get wrong, as single calls with the expected answer beside each.
 mod explaining;
 mod predicting;
+mod rust_tests;
 mod say;
+mod shrinking;
 
 fn main() {
     predicting::all();
     explaining::all();
+    let mut out = [0i32; 16384];
+    shrinking::all(&mut out);
+    rust_tests::all(&mut out);
 }

@@ -23,6 +23,16 @@ pub fn is_predicted(answer: Prediction, expected: u16, rows: usize) -> bool {
     }
 }
 
+pub fn is_production(answer: Prediction, expected: u16) -> bool {
+    match answer {
+        Prediction::Predicted {
+            production,
+            entered: _,
+        } => production.0 == expected,
+        Prediction::Refused(_) => false,
+    }
+}
+
 pub fn is_refused(answer: Prediction, number: usize) -> bool {
     match answer {
         Prediction::Predicted {

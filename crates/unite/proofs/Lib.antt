@@ -2,3 +2,5 @@ pub mod Meets
 pub mod Rowed
 pub mod Steps
 pub mod Ongoing
+pub mod Looked
+pub mod Scanning

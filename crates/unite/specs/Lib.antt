@@ -1,2 +1,3 @@
 pub mod Met
 pub mod Taking
+pub mod Looking

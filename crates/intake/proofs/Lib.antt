@@ -1,0 +1,1 @@
+-- (see the files named below)
