@@ -15,6 +15,7 @@ use Rattle.paper.specs.Rows.{Row, Table, find}
 use Rattle.paper.specs.Answers.{Ruling, accept, refuse, then}
 use Rattle.paper.specs.Build.{Standing}
 use Rattle.paper.specs.Unite.{taken, matched, United}
+use Rattle.rows.specs.Places.{uncoded}
 use Rattle.trees.specs.Reach.{Seat, Finder, sit, seat-of, onward, Word, said}
 use Rattle.trees.specs.Views.{join}
 use Rattle.trees.proofs.Paths.{path, word, onward-some, onward-none, low}
@@ -80,6 +81,14 @@ module _ (mode : Mode) (a : List ℕ → Word) (pB : Option ℕ) (D rs : List Ro
   unfolding word path said
   own-some z e = sym own ∙ ap said (onward-some (find rs) (lead (so-far none 0 rs ms .table) w) (r .terminal) x e₁ z (rw e₂ e))
 
+refused-of : {A B : Type 0} (g : Ruling A) (f : A → B) (n : ℕ) (d : List ℕ) → then g (λ c. accept (f c)) ≡ refuse n d
+    → g ≡ refuse n d
+refused-of (accept c) f n d e = absurd (let z : _≡_ {A = ℕ} 0 1 = cc in omega arith)
+refused-of (refuse m h) f n d e =
+    let a : m ≡ n = cc in
+    let b : h ≡ d = cc in
+    λ j. refuse (a j) (b j)
+
 -- two rows with one production, or none
 pub data Alike : Option Row → Option Row → Type 0 where
   neither : Alike none none
@@ -91,19 +100,15 @@ unfolding said seat-of
 alike a none none h k e = neither
 alike a none (some x) h k e = absurd (never (sym (h refl) ∙ e))
 alike a (some z) none h k e = absurd (never (sym e ∙ k z refl))
-alike a (some z) (some x) h k e = both (let d : some (x .production) ≡ some (z .production) = sym e ∙ k z refl in cc)
+alike a (some z) (some x) h k e = both {x = x} {z = z} (let d : some (x .production) ≡ some (z .production) = sym e ∙ k z refl in cc)
 
 module _ (mode : Mode) (rs : List Row) (s t : ℕ) (q : Option ℕ) where
   pub alike-refused : (g o : Option Row) → Alike g o → (n : ℕ) (d : List ℕ) → looked mode q g ≡ refuse n d
       → taking mode rs s t q o ≡ refuse n d
   unfolding looked taking
   alike-refused none none neither n d e = absurd (let z : _≡_ {A = ℕ} 0 1 = cc in omega arith)
-  alike-refused (some x) (some z) (both k) n d e = rw (← k) (go (taken mode (x .production) q) e)
-    where
-      go : (g : Ruling (Option ℕ)) → _≡_ {A = Ruling ℕ} (then g (λ _. accept (x .to))) (refuse n d)
-          → then g (λ c. accept (record { rows = map (paint (z .to) c) rs; state = z .to })) ≡ refuse n d
-      go (accept c) e = absurd (let z : _≡_ {A = ℕ} 0 1 = cc in omega arith)
-      go (refuse m f) e = λ j. ?
+  alike-refused (some x) (some z) (both k) n d e =
+      rw (← k, refused-of (taken mode (x .production) q) (λ _. x .to) n d e)
 
   pub alike-taken : (g o : Option Row) → Alike g o → (v : ℕ) → looked mode q g ≡ accept v
       → (w : Standing) × (taking mode rs s t q o ≡ accept w)
@@ -112,6 +117,31 @@ module _ (mode : Mode) (rs : List Row) (s t : ℕ) (q : Option ℕ) where
   alike-taken (some x) (some z) (both k) v e = rw (← k) (go (taken mode (x .production) q) e)
     where
       go : (g : Ruling (Option ℕ)) → _≡_ {A = Ruling ℕ} (then g (λ _. accept (x .to))) (accept v)
-          → (w : Standing) × (then g (λ c. accept (record { rows = map (paint (z .to) c) rs; state = z .to })) ≡ accept w)
+          → (w : Standing) × (then {B = Standing} g (λ c. accept (record { rows = map (paint (z .to) c) rs; state = z .to }))
+            ≡ accept w)
       go (accept c) e = (_, refl)
       go (refuse m f) e = absurd (let z : _≡_ {A = ℕ} 0 1 = cc in omega arith)
+
+-- ---- as the code looks
+module _ (mode : Mode) (q : Option ℕ) (x : Row) (p : ℕ) (e : uncoded p ≡ x .production) where
+  pub hit-clash : (d : List ℕ) → taken mode (uncoded p) q ≡ refuse 8 d → looked mode q (some x) ≡ refuse 8 d
+  unfolding looked
+  hit-clash d g = rw (← e, g)
+
+  pub hit-match : (z : Option ℕ) → taken mode (uncoded p) q ≡ accept z → (to : ℕ) → to ≡ x .to
+      → looked mode q (some x) ≡ accept to
+  unfolding looked
+  hit-match z g to k = rw (← e, g, k)
+
+module _ (mode : Mode) (q : Option ℕ) (rs : List Row) (m t : ℕ) where
+  pub look-none : m ≡ 65535 → looked mode q (seek rs m t) ≡ accept 65535
+  unfolding looked seek
+  look-none e = rw (eq-eqb m 65535 e)
+
+  pub seek-is : (m ≡ 65535 → ⊥) → (o : Option Row) → find rs m t ≡ o → o ≡ seek rs m t
+  unfolding seek
+  seek-is n o e = sym (rw (ne-eqb m 65535 n) e)
+
+  pub look-missing : (m ≡ 65535 → ⊥) → find rs m t ≡ none → looked mode q (seek rs m t) ≡ accept 65535
+  unfolding looked
+  look-missing n e = ap (looked mode q) (sym (seek-is n none e))

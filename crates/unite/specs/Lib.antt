@@ -1,3 +1,4 @@
 pub mod Met
 pub mod Taking
 pub mod Looking
+pub mod Whole

@@ -7,8 +7,9 @@ use lib.ListN.{length, getD, take}
 use lib.IntN.{ℤ}
 use Rattle.paper.specs.declared.Mode.{Mode}
 use Rattle.paper.specs.Rows.{Row, find, rows-in}
-use Rattle.paper.specs.Answers.{Ruling, accept, refuse, then}
-use Rattle.paper.specs.Build.{insert, Standing}
+use Rattle.paper.specs.declared.Making.{Making}
+use Rattle.paper.specs.Answers.{Ruling, accept, refuse, then, Made, Makes}
+use Rattle.paper.specs.Build.{insert, Standing, within}
 use Rattle.paper.specs.Unite.{taken, United, take-rows}
 use Rattle.rows.specs.Places.{code, uncoded}
 use Rattle.rows.specs.Search.{Lower, Passed}
@@ -107,6 +108,14 @@ abbrev pub Scanned : Mode → List Row → List Row → Scan → Type 0
 Scanned mode xs ys (scan.Clash p q) = Clashes mode xs ys (p .0) (q .0)
 Scanned mode xs ys scan.Free = Accepts mode xs ys
 
+-- What is left to do from prod0 and k on: the rows, then 14.
+abbrev pub joining : Mode → Option ℕ → ℕ → List Row → List Row → Ruling Made
+joining mode p k xs ys = then (all-rows mode xs ys p k) (λ u. within (u .table))
+
+-- An answer that leaves the output as it was, whatever prod0, k and the output are.
+pub record Refuses (mode : Mode) (xs ys : List Row) (r : Making) : Type 0 where
+  pub is : (p : Option ℕ) (k : ℕ) (old : List ℤ) → Makes (joining mode p k xs ys) r old old
+
 -- The array of matches holds for each state what f says of it.
 pub record Maps (f : ℕ → ℕ) (map : List ℕ) : Type 0 where
   pub sized : length map ≡ 1024
@@ -117,3 +126,4 @@ pub record Treed (ns : List ℤ) : Type 0 where
   pub passed : Passed ns
   pub tree : Tree (rows-in ns)
   pub whole : length ns ≤ 4092
+  pub fours : length ns / 4 * 4 ≡ length ns
