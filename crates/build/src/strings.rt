@@ -4,7 +4,7 @@ use rows::numbers;
 use rows::search::Found;
 
 ghost use mathlib.Core.Path.{_≡_};
-ghost use Prim.Native.Nat.{_≤_, max};
+ghost use Prim.Native.Nat.{_≤_};
 ghost use lib.ListN.{length};
 ghost use Rattle.paper.specs.Build.{built, strings, sum};
 ghost use Rattle.grow.specs.Held.{held, Laid};
@@ -137,13 +137,6 @@ fn next_code(code: usize, state: State, production: Production) -> usize
     code
 }
 
-// The larger.
-fn larger(a: usize, b: usize) -> usize
-    ensures { λ r. ⌜ r ≡ max a b ⌝ }
-{
-    if a < b { b } else { a }
-}
-
 // All strings: each is read from the rest of the token slice.
 pub fn add_strings(
     buf: &mut [i32],
@@ -168,7 +161,7 @@ pub fn add_strings(
         };
         n = rows;
         code = next_code(code, state, production);
-        k = larger(k, len);
+        k = grow::larger(k, len);
         rest = &rest[len..];
         i += 1;
     }

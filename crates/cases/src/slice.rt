@@ -1,6 +1,5 @@
 // Slices of a case, and the comparing of slices.
 use crate::number;
-
 ghost use Prim.Native.Nat.{_≤_};
 ghost use mathlib.Core.Path.{_≡_};
 ghost use lib.ListN.{length, take};

@@ -1,7 +1,6 @@
 // The cases of standard input one after the other, and the counts that a replay prints.
 use libc::STDIN_FILENO;
 use libc::STDOUT_FILENO;
-
 ghost use Prim.Native.Nat.{_<_};
 ghost use Rattle.io.specs.Counts.{Counts};
 

@@ -3,7 +3,7 @@ use paper::{Making, State, Terminal};
 use rows::numbers;
 
 ghost use mathlib.Core.Path.{_≡_};
-ghost use Prim.Native.Nat.{_+_, _*_, _<_, _≤_};
+ghost use Prim.Native.Nat.{_+_, _*_, _<_, _≤_, max};
 ghost use lib.ListN.{length};
 ghost use Rattle.paper.specs.Answers.{Makes};
 ghost use Rattle.paper.specs.Build.{within};
@@ -98,4 +98,11 @@ pub fn finish(buf: &[i32], n: usize, code: usize, k: usize, out: &mut [i32]) -> 
         rows: n,
         states: n + 1,
     }
+}
+
+// The larger.
+pub fn larger(a: usize, b: usize) -> usize
+    ensures { λ r. ⌜ r ≡ max a b ⌝ }
+{
+    if a < b { b } else { a }
 }

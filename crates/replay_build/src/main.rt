@@ -42,7 +42,10 @@ fn one(
     if n == 0 {
         return false;
     }
-    tally::count(counts, asked(slice::front_bytes(bytes, n), lengths, tokens, out));
+    tally::count(
+        counts,
+        asked(slice::front_bytes(bytes, n), lengths, tokens, out),
+    );
     true
 }
 

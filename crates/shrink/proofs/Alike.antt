@@ -26,7 +26,7 @@ use Rattle.shrink.proofs.Productions.{uncoded-code}
 pub hash-small : (h : ℕ) (os : List (ℕ × ℕ)) → h < 65521 → hash h os < 65521
 unfolding hash
 hash-small h [] l = l
-hash-small h (o ∷ os) l = hash-small ((h * 31 + o .0 * 7 + o .1) % 65521) os (omega arith)
+hash-small h (o ∷ os) l = hash-small ((h * 27191 + o .0 * 40493 + o .1) % 65521) os (omega arith)
 
 module _ (ns : List ℤ) (mark : ℕ → ℕ) where
   -- the rows of s by marks, from i on
@@ -44,7 +44,7 @@ module _ (ns : List ℤ) (mark : ℕ → ℕ) where
 
   pub hash-next : (s i h : ℕ) → Standing ns s i → leaves ns s i ≡ true → (x y : ℕ)
       → x ≡ row-at ns i .terminal → y ≡ mark (row-at ns i .to)
-      → hash h (left s i) ≡ hash ((h * 31 + x * 7 + y) % 65521) (left s (i + 1))
+      → hash h (left s i) ≡ hash ((h * 27191 + x * 40493 + y) % 65521) (left s (i + 1))
   unfolding hash
   hash-next s i h w e x y p q = ap (hash h) (left-row s i w e) ∙ rw (p, q)
 
@@ -53,16 +53,19 @@ module _ (ns : List ℤ) (mark : ℕ → ℕ) where
   hash-end s i h w e = ap (hash h) (left-end s i w e)
 
   -- from where the rows of two states begin
-  pub alike-start : {a b i j : ℕ} → Walk ns a i → Walk ns b j → rows-alike ns mark a b ≡ same-rows (left a i) (left b j)
+  pub alike-start : {a b i j : ℕ} → Walk ns a i → Walk ns b j
+      → rows-alike ns mark a b ≡ same-rows (left a i) (left b j)
   alike-start v w = rw (v .whole, w .whole)
 
-  pub hash-start : {s i : ℕ} (h : ℕ) → Walk ns s i → hash h (redirect mark (rows-of (rows-in ns) s)) ≡ hash h (left s i)
+  pub hash-start : {s i : ℕ} (h : ℕ) → Walk ns s i
+      → hash h (redirect mark (rows-of (rows-in ns) s)) ≡ hash h (left s i)
   hash-start h w = rw (w .whole)
 
   module _ (a b i j : ℕ) (v : Standing ns a i) (w : Standing ns b j) where
     -- a row of each
     module _ (e : leaves ns a i ≡ true) (f : leaves ns b j ≡ true) where
-      rows-both : same-rows (left a i) (left b j) ≡ (same-row ns mark i j && same-rows (left a (i + 1)) (left b (j + 1)))
+      rows-both : same-rows (left a i) (left b j)
+          ≡ (same-row ns mark i j && same-rows (left a (i + 1)) (left b (j + 1)))
       unfolding same-rows same-row
       rows-both = rw (left-row a i v e, left-row b j w f)
 

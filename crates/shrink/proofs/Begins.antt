@@ -63,7 +63,8 @@ module _ (ns : List ℤ) (i s : ℕ) where
       → rows-of (rest ns i) s ≡ (row-at ns i .terminal, row-at ns i .to) ∷ rows-of (rest ns (i + 1)) s
   rows-here h e = rows-cons h ∙ rw (eq-eqb (row-at ns i .from) s e)
 
-  rows-other : i * 4 + 3 < length ns → (row-at ns i .from ≡ s → ⊥) → rows-of (rest ns i) s ≡ rows-of (rest ns (i + 1)) s
+  rows-other : i * 4 + 3 < length ns → (row-at ns i .from ≡ s → ⊥)
+      → rows-of (rest ns i) s ≡ rows-of (rest ns (i + 1)) s
   rows-other h e = rows-cons h ∙ rw (ne-eqb (row-at ns i .from) s e)
 
   rows-end : length ns < i * 4 + 4 → rows-of (rest ns i) s ≡ []

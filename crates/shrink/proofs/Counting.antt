@@ -124,7 +124,8 @@ module _ (t : Table) (class : List ℕ) where
                 ap (λ (x : List ℕ). getD x (mark u) 0) is-new
                 ∙ getD-set-other number (mark s) (mark u) m 0 (unmet u i q)
                 ∙ k .placed u i q)
-                (λ q. subst (λ (x : ℕ). getD number′ (mark x) 0 ≡ place-among hs (head-of (mark-in class) t x)) (sym q)
+                (λ q. subst (λ (x : ℕ). getD number′ (mark x) 0 ≡ place-among hs (head-of (mark-in class) t x))
+                (sym q)
                 (ap (λ (x : List ℕ). getD x (mark s) 0) is-new
                 ∙ getD-set-same number (mark s) m 0 (omega (arith, room, k .sized))
                 ∙ k .count

@@ -23,7 +23,15 @@ use Rattle.merging.proofs.States.{to-state, rows-of-state}
 use Rattle.merging.proofs.Ruled.{row-production}
 use Rattle.merging.proofs.Ends.{in-heads}
 use Rattle.merging.proofs.Output.{marked-length}
-use Rattle.merging.proofs.Loops.{under-next, under-skip, under-zero, under-all, place-next, place-skip, marked-rows-next}
+use Rattle.merging.proofs.Loops.{
+  under-next,
+  under-skip,
+  under-zero,
+  under-all,
+  place-next,
+  place-skip,
+  marked-rows-next,
+}
 use Rattle.shrink.specs.Index.{leaves}
 use Rattle.shrink.specs.Faces.{coded, mark-in}
 use Rattle.shrink.specs.Classes.{State, Topped}
@@ -34,12 +42,18 @@ use Rattle.shrink.proofs.Writing.{written-none, written-more}
 
 -- a row at a place is a row of the slice
 pub row-in : (ns : List ℤ) (i : ℕ) → i < length ns / 4 → In (row-at ns i) (rows-in ns)
-row-in ns i l = back i (omega arith) (subst (λ (rs : List Row). In (row-at ns i) rs) (sym (rest-cons ns i (omega arith))) here)
+row-in ns i l = back i (omega arith) (lies i (omega arith) here)
   where
+    -- in a row and those after it, so in the rows from its place on
+    lies : (j : ℕ) → j < length ns / 4 → In (row-at ns i) (row-at ns j ∷ rest ns (j + 1))
+        → In (row-at ns i) (rest ns j)
+    lies j h k = subst (λ (rs : List Row). In (row-at ns i) rs) (sym (rest-cons ns j (omega arith))) k
+
     back : (j : ℕ) → j ≤ i → In (row-at ns i) (rest ns j) → In (row-at ns i) (rows-in ns)
     back zero h k = k
-    back (suc j) h k = back j (omega arith) (subst (λ (rs : List Row). In (row-at ns i) rs) (sym (rest-cons ns j (omega arith)))
-        (there (subst (λ (m : ℕ). In (row-at ns i) (rest ns m)) (sym (add-one j)) k)))
+    back (suc j) h k =
+        let e : suc j ≡ j + 1 = omega arith in
+        back j (omega arith) (lies j (omega arith) (there (rw e at k)))
 
 -- ---- the rows of a state
 
@@ -87,7 +101,8 @@ module _ (ns : List ℤ) (class number : List ℕ) (h f : ℕ) where
         let c = ap length (left-row i (k .stands) e s) in
         omega (arith, a, b, c, k .written .ends)
 
-    pub emit-next : (new : List ℤ) → Standing ns h (i + 1) → Written out new o (o + 1) (new-row ns class number f i ∷ [])
+    pub emit-next : (new : List ℤ) → Standing ns h (i + 1)
+        → Written out new o (o + 1) (new-row ns class number f i ∷ [])
         → Emitting old new at (o + 1) (i + 1)
     emit-next new n w = record {
       stands = n;
@@ -198,7 +213,8 @@ module _ (ns : List ℤ) (class number : List ℕ) (nm : Named (coded 0 ns) clas
         (written-more v (subst (λ (x : ℕ). Emitted ns class number x m out new o r) q w))
 
     pub heads-place : m + 1 ≡ place-among (heads-of (mark-in class) (coded 0 ns)) (s + 1)
-    heads-place = add-one m ∙ ap suc e ∙ sym (place-next hs (heads-rise t class) s i) ∙ ap (place-among hs) (sym (add-one s))
+    heads-place =
+        add-one m ∙ ap suc e ∙ sym (place-next hs (heads-rise t class) s i) ∙ ap (place-among hs) (sym (add-one s))
 
   -- no head at s
   module _ (s : ℕ) (off : In s (heads-of (mark-in class) (coded 0 ns)) → ⊥) where
@@ -212,7 +228,8 @@ module _ (ns : List ℤ) (class number : List ℕ) (nm : Named (coded 0 ns) clas
 
   pub heads-start : (old : List ℤ) → Written old old 0 0 (below 0)
   unfolding marked-rows
-  heads-start old = subst (Written old old 0 0) (sym (ap (marked-rows mark t hs) (under-zero hs))) (written-none old 0)
+  heads-start old = subst (Written old old 0 0) (sym (ap (marked-rows mark t hs) (under-zero hs)))
+      (written-none old 0)
 
   pub heads-end : (top : ℕ) → Topped (rows-in ns) top → (old out : List ℤ) (o s : ℕ) → s ≡ top
       → Written old out 0 o (below s) → Written old out 0 o (all-rows (mark-in class) (coded 0 ns))

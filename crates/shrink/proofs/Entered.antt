@@ -36,7 +36,8 @@ module _ (ns : List ℤ) (into : List ℕ) (m : Marked ns into) (s j : ℕ) (l :
   pub entered-state : (j ≡ 0 → ⊥) → In s (states (rows-in ns))
   entered-state z =
       let h = any-some (leads s) (rows-in ns) (not-false _ (sym leads-as ∙ ne-eqb j 0 z)) in
-      subst (λ (x : ℕ). In x (states (rows-in ns))) (eqb-true (h .0 .to) s (h .2)) (to-state (rows-in ns) (h .0) (h .1))
+      subst (λ (x : ℕ). In x (states (rows-in ns))) (eqb-true (h .0 .to) s (h .2))
+      (to-state (rows-in ns) (h .0) (h .1))
 
   pub entered-only : j ≡ 0 → (s ≡ 0 → ⊥) → In s (states (rows-in ns)) → ⊥
   entered-only z d i = ⊎-elim d
@@ -73,7 +74,8 @@ pub above-less : (ns : List ℤ) (into : List ℕ) → Marked ns into → (s j :
 above-less ns into m s j l e z p a = record {
   bare = λ u i.
       let h = a .bare u i in
-      ⊎-elim (λ q. absurd (entered-only ns into m s j l e z (λ y. omega (arith, y, p)) (subst (λ (x : ℕ). In x (states (rows-in ns))) q i)))
+      ⊎-elim (λ q. absurd (entered-only ns into m s j l e z (λ y. omega (arith, y, p))
+      (subst (λ (x : ℕ). In x (states (rows-in ns))) q i)))
       (λ q. omega (arith, q)) (split u s h);
 }
   where

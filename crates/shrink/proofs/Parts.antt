@@ -69,8 +69,8 @@ sound-split {p} {k} {ns} s =
 
 -- ---- classes and marks
 
-pub classes-named : (mode : Mode) (p0 : ℕ) (ns : List ℤ) (class : List ℕ) → Fitting ns → Classes mode (coded p0 ns) class
-    → Named (coded 0 ns) class
+pub classes-named : (mode : Mode) (p0 : ℕ) (ns : List ℤ) (class : List ℕ) → Fitting ns
+    → Classes mode (coded p0 ns) class → Named (coded 0 ns) class
 classes-named mode p0 ns class f k = record {
   small = λ s i. state-small ns f (mark-in class s) (class-state k s i);
   source = λ s i. class-source k s i;
@@ -78,7 +78,8 @@ classes-named mode p0 ns class f k = record {
 
 -- marks do not look at k
 marks-k : (mode : Mode) (p : Option ℕ) (k l : ℕ) (rs : List Row) (mark : ℕ → ℕ)
-    → Marks mode (record { prod0 = p; k = k; rows = rs }) mark → Marks mode (record { prod0 = p; k = l; rows = rs }) mark
+    → Marks mode (record { prod0 = p; k = k; rows = rs }) mark
+    → Marks mode (record { prod0 = p; k = l; rows = rs }) mark
 marks-k mode p k l rs mark m = record {
   one = λ a b i j e. let h = m .one a b i j e in record { production = h .production; rows = h .rows };
   two = λ a b i j h. m .two a b i j (record { production = h .production; rows = h .rows });
@@ -117,7 +118,8 @@ module _ (p q : Option ℕ) (k l : ℕ) (rs : List Row) (s : split (record { pro
   unfolding marked-rows
   rows-same hs [] = refl
   rows-same hs (x ∷ xs) = λ i.
-      pairs-same hs x (rows-of rs (source-of mark t x)) (λ o j. same-production (source-of mark t x) o j) i ++ rows-same hs xs i
+      pairs-same hs x (rows-of rs (source-of mark t x)) (λ o j. same-production (source-of mark t x) o j) i
+      ++ rows-same hs xs i
 
 -- ---- the answer
 
@@ -160,10 +162,12 @@ module _ (mode : Mode) (p : ℤ) (k : ℕ) (ns : List ℤ) (sound : Sound p k ns
         holds = written-front old new n (all-rows mark (table p k ns)) v;
       }
 
-  pub shrunk-answer : (p0 : ℕ) → p0 ≡ code (accepting p) → (old new : List ℤ) (n s : ℕ) → Shrunk mode p0 ns old new n s
+  pub shrunk-answer : (p0 : ℕ) → p0 ≡ code (accepting p) → (old new : List ℤ) (n s : ℕ)
+      → Shrunk mode p0 ns old new n s
       → Makes (accept (shrunk mode (table p k ns))) (making.Made p k n s) old new
   shrunk-answer p0 e old new n s h =
-      subst (λ (m : Made). Makes (accept m) (making.Made p k n s) old new) (sym (shrunk-as p0 e (h .class) (h .classes)))
+      subst (λ (m : Made). Makes (accept m) (making.Made p k n s) old new)
+      (sym (shrunk-as p0 e (h .class) (h .classes)))
       (answered old new n s (mark-in (h .class)) (h .wrote .rows) (h .wrote .states))
 
 -- ---- the refusals

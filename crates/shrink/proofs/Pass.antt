@@ -68,7 +68,8 @@ module _ (mode : Mode) (t : Table) where
     -- ---- one state more
 
     module _ (top : ℕ) (tops : Topped (t .rows) top) (sig class sig′ class′ : List ℕ) (s : ℕ)
-        (K : Classed mode t sig class (s + 1)) (live : State t s) (c : Chosen mode t top sig class sig′ class′ s) where
+        (K : Classed mode t sig class (s + 1)) (live : State t s)
+        (c : Chosen mode t top sig class sig′ class′ s) where
       room : s < 1024
       room = omega (arith, tops .few, tops .all s live)
 
@@ -115,7 +116,8 @@ module _ (mode : Mode) (t : Table) where
       join : s < c .head → Settled mode t D (From t s)
       join h =
           let w = c .found .hit h in
-          let k = K .holders (c .head) (omega (arith, c .found .under, tops .few)) (λ z. omega (arith, small, w .0, z)) in
+          let low : c .head < 1024 = omega (arith, c .found .under, tops .few) in
+          let k = K .holders (c .head) low (λ z. omega (arith, small, w .0, z)) in
           whole (settle-join mode t C D (From t (s + 1)) s (K .settled) ready agree (c .head) D-here
           (λ z. omega (arith, h, z)) (k .0) (k .1) (like-true C s (c .head) (w .1)))
 
@@ -204,8 +206,8 @@ module _ (mode : Mode) (t : Table) where
     classes = K .classes;
   }
 
-  pub pass-start : (top : ℕ) → Topped (t .rows) top → (sig class : List ℕ) → Holds (λ s. 65535) sig → length class ≡ 1024
-      → Classed mode t sig class top
+  pub pass-start : (top : ℕ) → Topped (t .rows) top → (sig class : List ℕ) → Holds (λ s. 65535) sig
+      → length class ≡ 1024 → Classed mode t sig class top
   pass-start top tops sig class h l = record {
     settled = record {
       closed = λ u d o i. absurd (past u d);
@@ -225,7 +227,8 @@ module _ (mode : Mode) (t : Table) where
 
   pub pass-end : (sig class : List ℕ) → Classed mode t sig class 0 → Classes mode t class
   pass-end sig class K = record {
-    settled = settled-as mode t (mark-in class) (From t 0) (State t) (λ u h. h .1) (λ u h. (omega arith, h)) (K .settled);
+    settled = settled-as mode t (mark-in class) (From t 0) (State t)
+        (λ u h. h .1) (λ u h. (omega arith, h)) (K .settled);
     highest = λ u h. K .highest u (omega arith, h);
     sized = K .classes;
   }

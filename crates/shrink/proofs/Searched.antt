@@ -56,5 +56,6 @@ module _ {same : ℕ → ℕ → Bool} {sig : List ℕ} {top s g : ℕ} where
     up = omega arith;
     under = omega (arith, m .below, m .from);
     hit = λ l. absurd (omega arith);
-    none = λ _ k a b e. second (eqb (getD sig k 0) g) (same s k) (eq-eqb (getD sig k 0) g e) (m .none k (omega arith) b);
+    none = λ _ k a b e. second (eqb (getD sig k 0) g) (same s k) (eq-eqb (getD sig k 0) g e)
+        (m .none k (omega arith) b);
   }

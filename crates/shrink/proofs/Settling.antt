@@ -21,7 +21,8 @@ pub counted-agree : (mode : Mode) (t : Table) (C D : ℕ → ℕ) (u : ℕ)
     → counted mode t D u ≡ counted mode t C u
 unfolding counted
 counted-agree mode t C D u h =
-    ap (λ (l : List (ℕ × ℕ)). cond (compared mode (production-at t u)) l []) (same-redirect D C (rows-of (t .rows) u) h)
+    ap (λ (l : List (ℕ × ℕ)). cond (compared mode (production-at t u)) l [])
+    (same-redirect D C (rows-of (t .rows) u) h)
 
 module _ (mode : Mode) (t : Table) where
   like-sym : (C : ℕ → ℕ) (u v : ℕ) → Like mode t C u v → Like mode t C v u

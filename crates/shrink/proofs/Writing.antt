@@ -79,25 +79,26 @@ stored-production z n p e f l =
     let q : z ≡ signed p = e ∙ ap (λ (x : ℕ). signed (uncoded x)) f ∙ ap signed (uncoded-code p) in
     ap (λ (x : ℤ). toZ w32 (ofZ w32 x)) q ∙ back (signed p) (small p (omega arith))
 
-module _ {a b c : List ℤ} {at mid end : ℕ} {xs ys : List Row} (v : Written a b at mid xs) (w : Written b c mid end ys) where
-  -- what follows the second follows the first too
-  drop-more : (n : ℕ) → drop (mid * 4 + n) b ≡ drop (mid * 4 + n) a
-  drop-more n = drop-on (mid * 4) n b ∙ ap (drop n) (v .back) ∙ sym (drop-on (mid * 4) n a)
-    where
-      drop-on : (i j : ℕ) (l : List ℤ) → drop (i + j) l ≡ drop j (drop i l)
-      drop-on i j l = sym (drop-drop j i l)
+module _ {a b c : List ℤ} {at mid end : ℕ} {xs ys : List Row} (v : Written a b at mid xs) (w : Written b c mid end ys)
+  where
+    -- what follows the second follows the first too
+    drop-more : (n : ℕ) → drop (mid * 4 + n) b ≡ drop (mid * 4 + n) a
+    drop-more n = drop-on (mid * 4) n b ∙ ap (drop n) (v .back) ∙ sym (drop-on (mid * 4) n a)
+      where
+        drop-on : (i j : ℕ) (l : List ℤ) → drop (i + j) l ≡ drop j (drop i l)
+        drop-on i j l = sym (drop-drop j i l)
 
-  pub written-more : Written a c at end (xs ++ ys)
-  written-more =
-      let e : end * 4 ≡ mid * 4 + length ys * 4 = omega (arith, w .ends) in
-      record {
-        ends = omega (arith, v .ends, w .ends, length-append xs ys);
-        front = w .front ∙ ap (λ (l : List ℤ). l ++ numbers ys) (v .front)
-            ∙ append-assoc (take (at * 4) a) (numbers xs) (numbers ys)
-            ∙ ap (λ (l : List ℤ). take (at * 4) a ++ l) (sym (numbers-append xs ys));
-        back = w .back ∙ rw e (drop-more (length ys * 4));
-        sized = w .sized ∙ v .sized;
-      }
+    pub written-more : Written a c at end (xs ++ ys)
+    written-more =
+        let e : end * 4 ≡ mid * 4 + length ys * 4 = omega (arith, w .ends) in
+        record {
+          ends = omega (arith, v .ends, w .ends, length-append xs ys);
+          front = w .front ∙ ap (λ (l : List ℤ). l ++ numbers ys) (v .front)
+              ∙ append-assoc (take (at * 4) a) (numbers xs) (numbers ys)
+              ∙ ap (λ (l : List ℤ). take (at * 4) a ++ l) (sym (numbers-append xs ys));
+          back = w .back ∙ rw e (drop-more (length ys * 4));
+          sized = w .sized ∙ v .sized;
+        }
 
 -- what an output holds once rows stand at its front
 pub written-front : (old new : List ℤ) (n : ℕ) (xs : List Row) → Written old new 0 n xs

@@ -38,7 +38,7 @@ like mode t mark a b =
 -- A number below 65,521 of rows, after a number that stands before them.
 unfoldable pub hash : ℕ → List (ℕ × ℕ) → ℕ
 hash h [] = h
-hash h (o ∷ os) = hash ((h * 31 + o .0 * 7 + o .1) % 65521) os
+hash h (o ∷ os) = hash ((h * 27191 + o .0 * 40493 + o .1) % 65521) os
 
 -- The number of a state: equal for states that become one.
 unfoldable pub sign : Mode → Table → (ℕ → ℕ) → ℕ → ℕ

@@ -112,7 +112,8 @@ pub fn emit(
         let u = s;
         s += 1;
         if is_head(rows, into, class, number, u, m) {
-            o = emit_state(rows, first, class, number, index::at(class, u), m, o, out);
+            let h = index::at(class, u);
+            o = emit_state(rows, first, class, number, h, m, o, out);
             m += 1;
         }
     }

@@ -32,8 +32,8 @@ pub fn places(
     top: usize,
     number: &mut [u16; 1024],
 ) -> usize
-    requires { ⌜ Marked (now rows) (now into) × Topped (rows-in (now rows)) top × Named (coded 0 (now rows)) (now class)
-        × Holds (λ s. 65535) (now number) ⌝ }
+    requires { ⌜ Marked (now rows) (now into) × Topped (rows-in (now rows)) top
+        × Named (coded 0 (now rows)) (now class) × Holds (λ s. 65535) (now number) ⌝ }
     ensures { λ r. ⌜ Placed (coded 0 (now (rows .entry))) (now (class .entry)) (now (number .exit))
         × (r ≡ length (heads-of (mark-in (now (class .entry))) (coded 0 (now (rows .entry))))) ⌝ }
 {

@@ -57,7 +57,7 @@ fn hash(rows: &[i32], first: &[u16; 1024], class: &[u16; 1024], s: usize, h: usi
     let mut r = h;
     let mut i = index::at(first, s);
     while index::leaves(rows, s, i) {
-        r = (r * 31 + numbers::terminal_at(rows, i) * 7 + target(rows, class, i)) % 65521;
+        r = (r * 27191 + numbers::terminal_at(rows, i) * 40493 + target(rows, class, i)) % 65521;
         i += 1;
     }
     r

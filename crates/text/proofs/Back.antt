@@ -1,5 +1,4 @@
 -- Writing what was read gives the same bytes. Assumes nothing.
--- a check that did not refuse
 use Prim.Native.Nat.{ℕ, _*_, _%_, _≤_}
 use mathlib.Core.Path.{_≡_, refl, ap, _∙_}
 use mathlib.Core.Bool.{Bool, true, false, cond}
@@ -20,6 +19,7 @@ use Rattle.text.proofs.Never.{refuse-accept}
 use Rattle.text.proofs.Out.{out-text, in-range}
 use Rattle.text.proofs.Joined.{text-back}
 
+-- a check that did not refuse
 pub passes : {A : Type 0} (b : Bool) (n : ℕ) (r : Ruling A) (a : A) → cond b (refuse n []) r ≡ accept a →
     (b ≡ false) × (r ≡ accept a)
 passes true n r a e = refuse-accept e

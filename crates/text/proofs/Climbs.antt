@@ -57,7 +57,7 @@ climbs-rising r (s ∷ rs) e =
     let h = both (row-fits r) (every row-fits (s ∷ rs)) e in
     let g = both (row-fits s) (every row-fits rs) (h .1) in
     let b : before r s ≡ leb (suc (key r)) (key s) =
-        before-key r s (fit r (h .0) .terminal) (fit s (g .0) .terminal) in
+    before-key r s (fit r (h .0) .terminal) (fit s (g .0) .terminal) in
     rw (b, add-one (key r)) (ap (λ (x : Bool). leb (suc (key r)) (key s) && x) (climbs-rising s rs (h .1)))
 
 pub tally-rising : (rs : List Row) → every row-fits rs ≡ true → tally start rs .rising ≡ rising rs

@@ -1,5 +1,4 @@
 -- A number's digits are read as the number, and digits in form are the number's. Assumes nothing.
--- the number of digits, after a number that stands before them
 use Prim.Native.Nat.{ℕ, zero, suc, _+_, _-_, _*_, _/_, _%_, _^_, _<_, _≤_}
 use mathlib.Core.Path.{_≡_, refl, ap, sym, _∙_}
 use mathlib.Core.Bool.{true, false, not, _&&_, _||_, or-true}
@@ -15,6 +14,7 @@ use Rattle.rows.proofs.Rest.{by-test, both}
 use Rattle.text.proofs.Digits.{digits-less, digits-more, width-less, width-most}
 use Rattle.text.proofs.Numbers.{digit-yes, digit-of}
 
+-- the number of digits, after a number that stands before them
 abbrev pub num : ℕ → List ℕ → ℕ
 num n [] = n
 num n (b ∷ bs) = num (n * 10 + (b - 48)) bs
@@ -49,9 +49,9 @@ are-digits zero n = tt
 are-digits (suc f) n = by-test (ltb n 10)
     (λ e. let h = ltb-true n 10 e in rw e (digit-yes (48 + n) (omega arith) (omega arith), tt))
     (λ e.
-      let m = mod-lt n {m = 10} (omega arith) in
-      rw e (digits-last (digits f (n / 10)) (48 + n % 10) (are-digits f (n / 10))
-        (digit-yes (48 + n % 10) (omega arith) (omega arith))))
+    let m = mod-lt n {m = 10} (omega arith) in
+    rw e (digits-last (digits f (n / 10)) (48 + n % 10) (are-digits f (n / 10))
+    (digit-yes (48 + n % 10) (omega arith) (omega arith))))
 
 own-number : (f n : ℕ) → n < 10 ^ f → num 0 (digits f n) ≡ n
 unfolding digits
@@ -59,9 +59,9 @@ own-number zero n h = omega arith
 own-number (suc f) n h = by-test (ltb n 10)
     (λ e. rw e (omega arith))
     (λ e.
-      let k : n / 10 < 10 ^ f = omega (arith, pow-suc 10 f) in
-      rw e (num-last 0 (digits f (n / 10)) (48 + n % 10) ∙ rw (own-number f (n / 10) k)
-        (omega (arith, div-add-mod' n 10))))
+    let k : n / 10 < 10 ^ f = omega (arith, pow-suc 10 f) in
+    rw e (num-last 0 (digits f (n / 10)) (48 + n % 10) ∙ rw (own-number f (n / 10) k)
+    (omega (arith, div-add-mod' n 10))))
 
 -- a number's first digit is no 0 unless it is 0
 pub own-first : (f n : ℕ) → 0 < n → n < 10 ^ f → (0 < length (digits f n)) × (getD (digits f n) 0 0 ≡ 48 → ⊥)
@@ -69,12 +69,13 @@ own-first zero n h k = absurd (omega arith)
 own-first (suc f) n h k = by-test (ltb n 10)
     (λ e. let g = ltb-true n 10 e in rw (digits-less f n g) (omega arith, λ q. omega arith))
     (λ e.
-      let g = ltb-false n 10 e in
-      let w = own-first f (n / 10) (omega arith) (omega (arith, pow-suc 10 f)) in
-      let last = (48 + n % 10) ∷ [] in
-      rw (digits-more f n g)
-      (omega (arith, length-append (digits f (n / 10)) last),
-        λ q. w .1 (sym (List·getD-append (digits f (n / 10)) last 0 0 (w .0)) ∙ q)))
+    let g = ltb-false n 10 e in
+    let w = own-first f (n / 10) (omega arith) (omega (arith, pow-suc 10 f)) in
+    let last = (48 + n % 10) ∷ [] in
+    rw (digits-more f n g) (
+      omega (arith, length-append (digits f (n / 10)) last),
+      λ q. w .1 (sym (List·getD-append (digits f (n / 10)) last 0 0 (w .0)) ∙ q),
+    ))
 
 in-form-of : (bs : List ℕ) (c : ℕ) → c ≡ digit-count bs → 1 ≤ c → c ≤ 5 →
     (eqb c 1 || not (eqb (getD bs 0 0) 48)) ≡ true →
@@ -105,10 +106,10 @@ written n bs h e =
     formed (suc m) k c =
         let w = own-first 5 (suc m) (omega arith) k in
         let g : getD (digits 5 (suc m) ++ bs) 0 0 ≡ getD (digits 5 (suc m)) 0 0 =
-            List·getD-append (digits 5 (suc m)) bs 0 0 (w .0) in
+        List·getD-append (digits 5 (suc m)) bs 0 0 (w .0) in
         let q : eqb (getD (digits 5 (suc m) ++ bs) 0 0) 48 ≡ false = ne-eqb _ 48 (λ x. w .1 (sym g ∙ x)) in
         in-form-of (digits 5 (suc m) ++ bs) (length (digits 5 (suc m))) (sym c) (w .0) (width-most 5 (suc m))
-          (rw q (or-true (eqb (length (digits 5 (suc m))) 1)))
+        (rw q (or-true (eqb (length (digits 5 (suc m))) 1)))
 
 -- digits in form are those of their number
 grown : (f m : ℕ) (ds : List ℕ) → 0 < m → Digits ds → digits (f + length ds) (num m ds) ≡ digits f m ++ ds
@@ -122,8 +123,8 @@ grown f m (d ∷ ds) h k =
     let g : digits (suc f) n ≡ digits f m ++ (d ∷ []) = digits-more f n (omega arith) ∙ rw (q, r) in
     rw e
     (grown (suc f) n ds (omega arith) (k .1)
-      ∙ ap (λ (x : List ℕ). x ++ ds) g
-      ∙ append-assoc (digits f m) (d ∷ []) ds)
+    ∙ ap (λ (x : List ℕ). x ++ ds) g
+    ∙ append-assoc (digits f m) (d ∷ []) ds)
 
 -- the digits at the front
 abbrev lead : List ℕ → List ℕ
@@ -156,7 +157,7 @@ rebuilt (d ∷ c ∷ ds) k a b e =
     let z : 48 + m ≡ d = omega arith in
     let s : suc f + length (c ∷ ds) ≡ 5 = omega arith in
     let g : digits (suc f + length (c ∷ ds)) (num m (c ∷ ds)) ≡ digits (suc f) m ++ (c ∷ ds) =
-        grown (suc f) m (c ∷ ds) (omega arith) (k .1) in
+    grown (suc f) m (c ∷ ds) (omega arith) (k .1) in
     let w : digits (suc f) m ≡ d ∷ [] = digits-less f m (omega arith) ∙ rw z in
     (rw s at g) ∙ rw w
 
@@ -180,5 +181,5 @@ formed-digits bs e =
     let f : (eqb (length (lead bs)) 1 || not (eqb (getD (lead bs) 0 0) 48)) ≡ true = rw (n, lead-first bs a) (h .1) in
     ap (λ (x : ℕ). digits 5 x ++ drop (digit-count bs) bs) (lead-number 0 bs)
     ∙ ap (λ (x : List ℕ). x ++ drop (digit-count bs) bs)
-      (rebuilt (lead bs) (lead-digits bs) (omega arith) (omega arith) f)
+    (rebuilt (lead bs) (lead-digits bs) (omega arith) (omega arith) f)
     ∙ take-append-drop (digit-count bs) bs

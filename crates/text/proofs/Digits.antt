@@ -1,5 +1,4 @@
 -- The digits of a number, as a loop writes them from the last to the first. Assumes nothing.
--- as many digits of a number as asked for, the last ones
 use Prim.Native.Nat.{ℕ, zero, suc, _+_, _-_, _/_, _%_, _<_, _≤_}
 use mathlib.Core.Path.{_≡_, refl, ap, _∙_}
 use mathlib.Core.List.{List, [], _∷_, _++_}
@@ -14,6 +13,7 @@ use Rattle.rows.proofs.Rest.{by-test}
 use Rattle.text.specs.Put.{put}
 use Rattle.text.proofs.Put.{put-last}
 
+-- as many digits of a number as asked for, the last ones
 abbrev pub pad : ℕ → ℕ → List ℕ
 pad zero n = []
 pad (suc i) n = pad i (n / 10) ++ ((48 + n % 10) ∷ [])
@@ -43,8 +43,8 @@ digits-pad zero n = refl
 digits-pad (suc f) n = by-test (ltb n 10)
     (λ e. let h : n < 10 = ltb-true n 10 e in digits-less f n h ∙ rw (width-less f n h, mod-eq-of-lt h))
     (λ e.
-      let h : 10 ≤ n = ltb-false n 10 e in
-      digits-more f n h ∙ rw (width-more f n h, ← digits-pad f (n / 10)))
+    let h : 10 ≤ n = ltb-false n 10 e in
+    digits-more f n h ∙ rw (width-more f n h, ← digits-pad f (n / 10)))
 
 -- one digit more
 pub width-up : (f n w : ℕ) → 10 ≤ n → length (digits f (n / 10)) ≡ w → length (digits (suc f) n) ≡ suc w
@@ -79,5 +79,5 @@ digit-turn l at (suc j) n h k =
     let p : length (pad j (n / 10)) ≡ j = pad-length j (n / 10) in
     let m : at + length (pad j (n / 10)) < length l = omega arith in
     let q : put (set l (at + length (pad j (n / 10))) (48 + n % 10)) at (pad j (n / 10)) ≡ put l at (pad (suc j) n) =
-        put-last l at (pad j (n / 10)) (48 + n % 10) m in
+    put-last l at (pad j (n / 10)) (48 + n % 10) m in
     rw e (rw p at q)

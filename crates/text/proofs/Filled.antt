@@ -1,5 +1,4 @@
 -- The pass that writes rows: their numbers as they are stored, and row after row. Assumes nothing.
--- numbers as they are stored
 use Prim.Native.Nat.{ℕ, zero, suc, _+_, _-_, _<_, _≤_}
 use mathlib.Core.Path.{_≡_, refl, ap, sym, _∙_}
 use mathlib.Core.Bool.{true, _&&_}
@@ -25,6 +24,7 @@ use Rattle.text.proofs.Put.{put-put}
 use Rattle.text.proofs.Parted.{rows-end, rows-bad}
 use Rattle.text.proofs.Tallied.{row-back, rows-cons}
 
+-- numbers as they are stored
 pub stored : (n : ℕ) (z : ℤ) → n ≤ 65535 → z ≡ pos n → toZ w32 (ofZ w32 z) ≡ pos n
 stored n z h e = rw e (toZ-ofZ {w = w32} {z = pos n} (record { sfits = omega arith }))
 
@@ -39,14 +39,16 @@ module _ (t : List ℕ) (at room : ℕ) (h : at < length t) (ready : Ready t at 
 
   module _ (f o g c n : ℕ) (e : row-from t at ≡ row-line.Row f o g c n) where
     next-read : (rows-read t n ≡ accept (numbers-from t n)) ×
-      (numbers-from t at ≡ row-numbers (row f o g c) ++ numbers-from t n)
+        (numbers-from t at ≡ row-numbers (row f o g c) ++ numbers-from t n)
     unfolding numbers-from
     next-read = go (rows-read t n) refl
       where
         r : List ℤ
         r = row-numbers (row f o g c)
+
         after : Ruling (List ℤ) → Ruling (List ℤ)
         after x = then x (λ ns. accept (r ++ ns))
+
         go : (x : Ruling (List ℤ)) → rows-read t n ≡ x →
             (rows-read t n ≡ accept (taken (rows-read t n))) × (taken (rows-read t at) ≡ r ++ taken (rows-read t n))
         go (accept ns) q = (
@@ -59,7 +61,7 @@ module _ (t : List ℕ) (at room : ℕ) (h : at < length t) (ready : Ready t at 
     unfolding every
     next-fit =
         sym (ap (λ (ns : List ℤ). every row-fits (rows-in ns)) (next-read .1)
-          ∙ ap (every row-fits) (row-back f o g c (numbers-from t n)))
+        ∙ ap (every row-fits) (row-back f o g c (numbers-from t n)))
         ∙ ready .fit
 
     -- the row at the place fits, and the rows after it are as ready

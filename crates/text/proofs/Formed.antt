@@ -1,5 +1,4 @@
 -- What the pieces of a line say of reading it by its form. Assumes nothing.
--- the rest of a form after a word
 use Prim.Native.String.{String}
 use Prim.Native.Nat.{ℕ, suc, _+_, _-_, _<_, _≤_}
 use mathlib.Core.Path.{_≡_, refl, ap, sym, _∙_}
@@ -23,6 +22,7 @@ use Rattle.text.specs.Pieces.{starts, number-at, as-code, production-at,
 use Rattle.text.proofs.Never.{no-number}
 use Rattle.text.proofs.Starts.{past-starts, starts-within}
 
+-- the rest of a form after a word
 abbrev pub after : List Piece → Option (List ℕ) → Option (List ℤ)
 after ps none = none
 after ps (some bs) = read ps bs
@@ -38,7 +38,7 @@ module _ (l : List ℕ) (at : ℕ) (ps : List Piece) where
       read (word w ∷ ps) (drop at l) ≡ read ps (drop (at + length (bytes w)) l)
   read-word w e =
       read-after w ps (drop at l) (some (drop (length (bytes w)) (drop at l)))
-        (past-starts (bytes w) (drop at l) ∙ rw e)
+      (past-starts (bytes w) (drop at l) ∙ rw e)
       ∙ ap (read ps) (drop-drop (length (bytes w)) at l)
 
   pub read-no-word : (w : String) → starts (bytes w) (drop at l) ≡ false → read (word w ∷ ps) (drop at l) ≡ none
@@ -50,21 +50,21 @@ module _ (l : List ℕ) (at : ℕ) (ps : List Piece) where
   unfolding read number-at
   read-count v n e = by-test (in-form (drop at l))
       (λ f.
-        let bs = drop at l in
-        let g : Is (value (digit-count bs) 0 bs) (at + digit-count bs) ≡ Is v n = rw f at e in
-        let a : value (digit-count bs) 0 bs ≡ v = cc in
-        let b : at + digit-count bs ≡ n = cc in
-        rw (f, drop-drop (digit-count bs) at l, a, b))
+      let bs = drop at l in
+      let g : Is (value (digit-count bs) 0 bs) (at + digit-count bs) ≡ Is v n = rw f at e in
+      let a : value (digit-count bs) 0 bs ≡ v = cc in
+      let b : at + digit-count bs ≡ n = cc in
+      rw (f, drop-drop (digit-count bs) at l, a, b))
       (λ f. no-number (rw f at e))
 
   read-no-count : number-at l at ≡ Bad → read (count ∷ ps) (drop at l) ≡ none
   unfolding read number-at
   read-no-count e = by-test (in-form (drop at l))
       (λ f.
-        let bs = drop at l in
-        let g : Is (value (digit-count bs) 0 bs) (at + digit-count bs) ≡ Bad = rw f at e in
-        let z : _≡_ {A = ℕ} 0 1 = cc in
-        absurd (omega arith))
+      let bs = drop at l in
+      let g : Is (value (digit-count bs) 0 bs) (at + digit-count bs) ≡ Bad = rw f at e in
+      let z : _≡_ {A = ℕ} 0 1 = cc in
+      absurd (omega arith))
       (λ f. rw f)
 
 -- the rest of a form after a production, by what follows -1
@@ -95,10 +95,10 @@ module _ (l : List ℕ) (at : ℕ) (ps : List Piece) where
   unfolding production-at
   read-production c n e = by-test (starts (bytes "-1") (drop at l))
       (λ f.
-        let g : Is 0 (at + 2) ≡ Is c n = rw f at e in
-        let a : 0 ≡ c = cc in
-        let b : at + 2 ≡ n = cc in
-        minus-one f ∙ rw (← a, ← b))
+      let g : Is 0 (at + 2) ≡ Is c n = rw f at e in
+      let a : 0 ≡ c = cc in
+      let b : at + 2 ≡ n = cc in
+      minus-one f ∙ rw (← a, ← b))
       (λ f. no-minus f ∙ coded (number-at l at) refl (rw f at e))
     where
       coded : (x : Number) → number-at l at ≡ x → as-code x ≡ Is c n →
@@ -171,9 +171,9 @@ module _ (l : List ℕ) (at : ℕ) (w : String) where
   unfolding ends-at
   read-no-end k e = by-test (starts (bytes w) (drop at l))
       (λ f.
-        let g : eqb (at + length (bytes w)) (length l) ≡ false = rw f at e in
-        let d = eqb-false (at + length (bytes w)) (length l) g in
-        let b = starts-within (bytes w) l at k f in
-        read-word l at [] w f
-        ∙ read-something (drop (at + length (bytes w)) l) (omega (arith, length-drop (at + length (bytes w)) l)))
+      let g : eqb (at + length (bytes w)) (length l) ≡ false = rw f at e in
+      let d = eqb-false (at + length (bytes w)) (length l) g in
+      let b = starts-within (bytes w) l at k f in
+      read-word l at [] w f
+      ∙ read-something (drop (at + length (bytes w)) l) (omega (arith, length-drop (at + length (bytes w)) l)))
       (λ f. read-no-word l at [] w f)

@@ -76,14 +76,14 @@ pub number-within : (l : List ℕ) (at v n : ℕ) → at ≤ length l → number
 unfolding number-at
 number-within l at v n h e = by-test (in-form (drop at l))
     (λ f.
-      let bs = drop at l in
-      let g : Is (value (digit-count bs) 0 bs) (at + digit-count bs) ≡ Is v n = rw f at e in
-      let a : value (digit-count bs) 0 bs ≡ v = cc in
-      let b : at + digit-count bs ≡ n = cc in
-      record {
-        small = omega (arith, value-small (digit-count bs) bs (le-refl _) (in-digits bs f));
-        inside = omega (arith, few-digits bs, length-drop at l);
-      })
+    let bs = drop at l in
+    let g : Is (value (digit-count bs) 0 bs) (at + digit-count bs) ≡ Is v n = rw f at e in
+    let a : value (digit-count bs) 0 bs ≡ v = cc in
+    let b : at + digit-count bs ≡ n = cc in
+    record {
+      small = omega (arith, value-small (digit-count bs) bs (le-refl _) (in-digits bs f));
+      inside = omega (arith, few-digits bs, length-drop at l);
+    })
     (λ f. no-number (rw f at e))
 
 module _ (l : List ℕ) (at : ℕ) where
@@ -129,10 +129,10 @@ pub production-within : (l : List ℕ) (at v n : ℕ) → at ≤ length l → pr
 unfolding production-at bytes
 production-within l at v n h e = by-test (starts (45 ∷ 49 ∷ []) (drop at l))
     (λ f.
-      let g : Is 0 (at + 2) ≡ Is v n = rw f at e in
-      let a : 0 ≡ v = cc in
-      let b : at + 2 ≡ n = cc in
-      record { small = omega arith; inside = omega (arith, starts-within (45 ∷ 49 ∷ []) l at h f) })
+    let g : Is 0 (at + 2) ≡ Is v n = rw f at e in
+    let a : 0 ≡ v = cc in
+    let b : at + 2 ≡ n = cc in
+    record { small = omega arith; inside = omega (arith, starts-within (45 ∷ 49 ∷ []) l at h f) })
     (λ f. code-within (number-at l at) refl (rw f at e))
   where
     code-within : (x : Number) → number-at l at ≡ x → as-code x ≡ Is v n → Within l v n 100001

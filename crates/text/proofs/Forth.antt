@@ -1,5 +1,4 @@
 -- Reading what was written gives the same table. Assumes nothing.
--- bytes without an LF
 use Prim.Native.Nat.{ℕ, zero, suc, _+_, _*_, _%_, _/_, _<_, _≤_}
 use mathlib.Core.Path.{_≡_, refl, ap, subst, _∙_}
 use mathlib.Core.Bool.{true, false, not, _||_}
@@ -15,8 +14,27 @@ use Rattle.paper.specs.Words.{bytes}
 use Rattle.paper.specs.Rows.{Row, table, rows-in, natural, accepting, signed}
 use Rattle.paper.specs.Answers.{accept}
 use Rattle.paper.specs.Checks.{every, row-fits, range, order, little-room, row-slice}
-use Rattle.paper.specs.Text.{Line, longer, lines, Piece, word, count, production, digits, decimal, read, write,
-  read-rows, read-lines, row-form, head-form, row-lines, text, text-in, text-out}
+use Rattle.paper.specs.Text.{
+  Line,
+  longer,
+  lines,
+  Piece,
+  word,
+  count,
+  production,
+  digits,
+  decimal,
+  read,
+  write,
+  read-rows,
+  read-lines,
+  row-form,
+  head-form,
+  row-lines,
+  text,
+  text-in,
+  text-out,
+}
 use Rattle.laws.proofs.Every.{neither}
 use Rattle.rows.specs.Places.{code}
 use Rattle.rows.proofs.Rest.{both, length-rows}
@@ -30,6 +48,7 @@ use Rattle.text.proofs.Parted.{line-read}
 use Rattle.text.proofs.Reread.{reread-head, reread-row}
 use Rattle.text.proofs.Back.{passes}
 
+-- bytes without an LF
 abbrev Unbroken : List ℕ → Type 0
 Unbroken [] = Unit
 Unbroken (b ∷ bs) = (eqb b 10 ≡ false) × Unbroken bs
@@ -72,9 +91,10 @@ unbroken-write (production ∷ ps) (n ∷ ns) h =
 
 row-words : Words row-form
 unfolding row-form bytes
-row-words =
-    ((refl, (refl, (refl, (refl, (refl, (refl, tt)))))),
-      ((refl, (refl, tt)), ((refl, (refl, tt)), ((refl, (refl, tt)), ((refl, (refl, tt)), tt)))))
+row-words = (
+  (refl, (refl, (refl, (refl, (refl, (refl, tt)))))),
+  ((refl, (refl, tt)), ((refl, (refl, tt)), ((refl, (refl, tt)), ((refl, (refl, tt)), tt)))),
+)
 
 head-words : Words head-form
 unfolding head-form bytes
@@ -87,7 +107,7 @@ row-reread : (f t g p : ℤ) →
 row-reread f t g p h =
     let c : code (accepting (signed (accepting p))) ≤ 65536 = rw (signed-back (accepting p)) (h .production) in
     let r = reread-row (natural f) (natural t) (natural g) (signed (accepting p)) (omega (arith, h .from))
-          (omega (arith, h .terminal)) (omega (arith, h .to)) c in
+    (omega (arith, h .terminal)) (omega (arith, h .to)) c in
     subst (λ (x : List ℤ). read row-form (write row-form x) ≡ some x) (row-kept f t g p h) r
 
 rows-reread : (at m : ℕ) (ns : List ℤ) → length ns ≡ m * 4 → every row-fits (rows-in ns) ≡ true →
@@ -104,8 +124,10 @@ rows-reread at (suc m) (f ∷ t ∷ g ∷ p ∷ ns) n e =
     let x = write row-form (f ∷ t ∷ g ∷ p ∷ []) in
     let l : Line = record { bytes = x; ended = true } in
     ap (read-rows at) (lines-written x (row-lines ns) (unbroken-write row-form (f ∷ t ∷ g ∷ p ∷ []) row-words))
-    ∙ rw (line-read row-form at l (f ∷ t ∷ g ∷ p ∷ []) (row-reread f t g p (fit r (h .0))),
-        rows-reread (at + length x + 1) m ns (omega arith) (h .1))
+    ∙ rw (
+      line-read row-form at l (f ∷ t ∷ g ∷ p ∷ []) (row-reread f t g p (fit r (h .0))),
+      rows-reread (at + length x + 1) m ns (omega arith) (h .1),
+    )
 
 -- the whole text
 lines-reread : (p : ℤ) (k m : ℕ) (ns : List ℤ) → Ranged p k ns → length ns ≡ m * 4 →
@@ -116,8 +138,10 @@ lines-reread p k m ns h n =
     let l : Line = record { bytes = x; ended = true } in
     let few : k < 100000 = omega (arith, h .few) in
     ap read-lines (lines-written x (row-lines ns) (unbroken-write head-form (p ∷ pos k ∷ []) head-words))
-    ∙ rw (line-read head-form 0 l (p ∷ pos k ∷ []) (reread-head p k (h .prod0) few),
-        rows-reread (length x + 1) m ns n (h .rows))
+    ∙ rw (
+      line-read head-form 0 l (p ∷ pos k ∷ []) (reread-head p k (h .prod0) few),
+      rows-reread (length x + 1) m ns n (h .rows),
+    )
 
 whole-rows : (ns : List ℤ) → row-slice ns ≡ false → length ns ≡ length ns / 4 * 4
 unfolding row-slice

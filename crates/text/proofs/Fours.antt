@@ -1,5 +1,4 @@
 -- Rows that were read have four numbers each. Assumes nothing.
--- the numbers of a line, and of an answer
 use Prim.Native.Nat.{ℕ, suc, _+_, _*_}
 use mathlib.Core.Path.{_≡_, refl}
 use mathlib.Core.Bool.{Bool, true, false, cond}
@@ -16,6 +15,7 @@ use Rattle.text.specs.Reading.{row-of}
 use Rattle.text.specs.Tally.{rows-read, numbers-from}
 use Rattle.text.proofs.Told.{row-told, row-is-read}
 
+-- the numbers of a line, and of an answer
 abbrev sized : Option (List ℤ) → Type 0
 sized (some ns) = length ns ≡ 4
 sized none = Unit
@@ -44,7 +44,7 @@ pub rows-four : (at : ℕ) (ls : List Line) → size (read-rows at ls) (length l
 unfolding read-rows
 rows-four at [] = refl
 rows-four at (l ∷ ls) = go (read-line row-form at l) (line-four at l) (read-rows (at + length (l .bytes) + 1) ls)
-      (rows-four (at + length (l .bytes) + 1) ls)
+    (rows-four (at + length (l .bytes) + 1) ls)
   where
     go : (r : Ruling (List ℤ)) → size r 4 → (q : Ruling (List ℤ)) → size q (length ls * 4) →
         size (then r (λ x. then q (λ ns. accept (x ++ ns)))) (suc (length ls) * 4)

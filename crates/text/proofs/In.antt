@@ -1,5 +1,4 @@
 -- What text in answers, check by check. Assumes nothing.
--- a refusal
 use Prim.Native.Nat.{ℕ, _*_, _<_, _≤_}
 use mathlib.Core.Path.{_≡_, refl, ap, sym, _∙_}
 use mathlib.Core.Bool.{true, false, not, _&&_}
@@ -32,6 +31,7 @@ use Rattle.text.proofs.Tallied.{signed-back}
 use Rattle.text.proofs.Climbs.{tally-rows, tally-fits, tally-rising}
 use Rattle.text.proofs.Parted.{head-rows, head-bad}
 
+-- a refusal
 pub refused : {ruling : Ruling Table} {old : List ℤ} (r : Refusal) → ruling ≡ refuse (number r) (detail r) →
     Reads ruling (Refused r) old old
 refused r e = record { says = rw e; holds = rw e }
@@ -77,9 +77,10 @@ module _ (t : List ℕ) (room : ℕ) where
             go : (r : Ruling (List ℤ)) → rows-read t n ≡ r →
                 then r (λ ns. accept (tally start (rows-in ns))) ≡ accept s →
                 (rows-read t n ≡ accept (taken (rows-read t n))) × (s ≡ tally start (rows-in (taken (rows-read t n))))
-            go (accept ns) q w = let a : s ≡ tally start (rows-in ns) = cc in
-                (q ∙ ap (λ (x : Ruling (List ℤ)). accept (taken x)) (sym q),
-                  a ∙ ap (λ (x : Ruling (List ℤ)). tally start (rows-in (taken x))) (sym q))
+            go (accept ns) q w = let a : s ≡ tally start (rows-in ns) = cc in (
+              q ∙ ap (λ (x : Ruling (List ℤ)). accept (taken x)) (sym q),
+              a ∙ ap (λ (x : Ruling (List ℤ)). tally start (rows-in (taken x))) (sym q),
+            )
             go (refuse m d) q w = refuse-accept w
 
         -- what the pass has learnt
@@ -108,9 +109,9 @@ module _ (t : List ℕ) (room : ℕ) where
           unfolding range
           range-is =
               let q : production-fits (accepting (signed (uncoded p))) ≡ leb p 65536 =
-                  ap production-fits (signed-back (uncoded p))
-                  ∙ sym (code-fits (uncoded p))
-                  ∙ ap (λ (x : ℕ). leb x 65536) (sym (code-back p)) in
+              ap production-fits (signed-back (uncoded p))
+              ∙ sym (code-fits (uncoded p))
+              ∙ ap (λ (x : ℕ). leb x 65536) (sym (code-back p)) in
               rw (q, fits)
 
           pub in-range : ((leb p 65536 && leb k 16) && s .fits) ≡ false → text-in t room ≡ refuse 2 []
@@ -131,7 +132,7 @@ module _ (t : List ℕ) (room : ℕ) where
             unfolding order
             order-is =
                 ap not (sym (ap (λ (x : Tally). x .rising) (read-all .1) ∙ tally-rising
-                  (rows-in (numbers-from t n)) all-fit))
+                (rows-in (numbers-from t n)) all-fit))
 
             pub in-order : s .rising ≡ false → text-in t room ≡ refuse 3 []
             in-order r =
@@ -155,7 +156,7 @@ module _ (t : List ℕ) (room : ℕ) where
                 let q : order (of (numbers-from t n)) ≡ false = order-is ∙ ap not r in
                 let ruled : text-in t room ≡ accept (of (numbers-from t n)) = in-plain ∙ rw (in-bounds, q) in
                 let kept : numbers (rows-in (numbers-from t n)) ≡ numbers-from t n =
-                    numbers-kept (length (lines (drop n t))) (numbers-from t n) whole all-fit in
+                numbers-kept (length (lines (drop n t))) (numbers-from t n) whole all-fit in
                 record {
                   says = rw (ruled, zs, count, signed-back (uncoded p));
                   holds = rw (ruled, kept) (ns ∙ put-front old (numbers-from t n));

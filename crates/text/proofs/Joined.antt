@@ -1,5 +1,4 @@
 -- The lines of a text put together again, and what a text that was read is written as. Assumes nothing.
--- lines with their LFs
 use Prim.Native.Nat.{ℕ, _+_, _*_}
 use mathlib.Core.Path.{_≡_, refl, ap, sym, _∙_}
 use mathlib.Core.Bool.{Bool, true, false, cond}
@@ -12,8 +11,21 @@ use lib.ListN.{length, getD}
 use lib.IntN.{ℤ, pos}
 use Rattle.paper.specs.Rows.{Table, table, natural, signed}
 use Rattle.paper.specs.Answers.{Ruling, accept, refuse, then}
-use Rattle.paper.specs.Text.{Line, longer, lines, Piece, read, write, read-line, read-rows, read-lines, row-form,
-  head-form, row-lines, text}
+use Rattle.paper.specs.Text.{
+  Line,
+  longer,
+  lines,
+  Piece,
+  read,
+  write,
+  read-line,
+  read-rows,
+  read-lines,
+  row-form,
+  head-form,
+  row-lines,
+  text,
+}
 use Rattle.rows.specs.Places.{uncoded}
 use Rattle.rows.proofs.Rest.{by-test}
 use Rattle.text.specs.declared.reading.HeadLine.{HeadLine}
@@ -25,6 +37,7 @@ use Rattle.text.proofs.Fours.{rows-four, line-four, size}
 use Rattle.text.proofs.Parted.{line-read, line-unread}
 use Rattle.text.proofs.Rewritten.{read-write}
 
+-- lines with their LFs
 abbrev join : List Line → List ℕ
 join [] = []
 join (l ∷ ls) = l .bytes ++ cond (l .ended) (10 ∷ join ls) (join ls)
@@ -118,6 +131,7 @@ lines-back (l ∷ ls) tb e = go (read-line head-form 0 l) refl (read-rows (lengt
   where
     of : List ℤ → List ℤ → Table
     of h ns = table (getD h 0 (pos 0)) (natural (getD h 1 (pos 0))) ns
+
     go : (x : Ruling (List ℤ)) → read-line head-form 0 l ≡ x → (y : Ruling (List ℤ)) →
         read-rows (length (l .bytes) + 1) ls ≡ y →
         then x (λ h. then y (λ ns. accept (of h ns))) ≡ accept tb → Read-from (join (l ∷ ls)) tb
@@ -133,9 +147,9 @@ lines-back (l ∷ ls) tb e = go (read-line head-form 0 l) refl (read-rows (lengt
           fours = rw q at (rows-four (length (l .bytes) + 1) ls);
           is-table = sym v ∙ ap (λ (x : List ℤ). of x ns) (c .all);
           is-text =
-            ap (λ (x : List ℤ). write head-form x ++ (10 ∷ row-lines ns)) (sym (c .all))
-            ∙ ap (λ (x : List ℕ). x ++ (10 ∷ row-lines ns)) (read-write head-form (l .bytes) h (b .1))
-            ∙ rw (b .0) (ap (λ (x : List ℕ). l .bytes ++ (10 ∷ x)) (rows-back (length (l .bytes) + 1) ls ns q));
+              ap (λ (x : List ℤ). write head-form x ++ (10 ∷ row-lines ns)) (sym (c .all))
+              ∙ ap (λ (x : List ℕ). x ++ (10 ∷ row-lines ns)) (read-write head-form (l .bytes) h (b .1))
+              ∙ rw (b .0) (ap (λ (x : List ℕ). l .bytes ++ (10 ∷ x)) (rows-back (length (l .bytes) + 1) ls ns q));
         }
     go (accept h) p (refuse m d) q w = refuse-accept w
     go (refuse m d) p y q w = refuse-accept w

@@ -25,3 +25,4 @@ pub mod Joined
 pub mod Back
 pub mod Reread
 pub mod Forth
+pub mod Trips

@@ -75,11 +75,11 @@ value-bound zero n bs h = omega arith
 value-bound (suc c) n [] h = absurd (omega arith)
 value-bound (suc c) n (b ∷ bs) h = by-test (is-digit b)
     (λ e.
-      let d = digit-of b e in
-      let m : suc c ≤ suc (digit-count bs) = rw e at h in
-      let s : suc (n * 10 + (b - 48)) ≤ suc n * 10 = omega arith in
-      let p : suc n * 10 * 10 ^ c ≡ suc n * 10 ^ suc c = rw (pow-succ' 10 c) (mul-assoc (suc n) 10 (10 ^ c)) in
-      omega (arith, value-bound c (n * 10 + (b - 48)) bs (omega arith), mul-le-mul-right (10 ^ c) s))
+    let d = digit-of b e in
+    let m : suc c ≤ suc (digit-count bs) = rw e at h in
+    let s : suc (n * 10 + (b - 48)) ≤ suc n * 10 = omega arith in
+    let p : suc n * 10 * 10 ^ c ≡ suc n * 10 ^ suc c = rw (pow-succ' 10 c) (mul-assoc (suc n) 10 (10 ^ c)) in
+    omega (arith, value-bound c (n * 10 + (b - 48)) bs (omega arith), mul-le-mul-right (10 ^ c) s))
     (λ e. let m : suc c ≤ 0 = rw e at h in absurd (omega arith))
 
 tens : (c : ℕ) → c ≤ 5 → 10 ^ c ≤ 100000

@@ -1,5 +1,4 @@
 -- What text out answers, check by check. Assumes nothing.
--- a refusal, and what was written
 use Prim.Native.Nat.{ℕ, _+_, _%_, _<_, _≤_}
 use mathlib.Core.Path.{_≡_, ap, sym, subst, _∙_}
 use mathlib.Core.Bool.{Bool, true, false, not, _&&_}
@@ -28,6 +27,7 @@ use Rattle.text.proofs.Put.{put-front}
 use Rattle.text.proofs.Lined.{uncode}
 use Rattle.text.proofs.Kept.{production-kept, lines-kept}
 
+-- a refusal, and what was written
 module _ {ruling : Ruling (List ℕ)} {old : List ℕ} where
   pub refused : (r : Refusal) → ruling ≡ refuse (number r) (detail r) → Writes ruling (Refused r) old old
   refused r e = record { says = rw e; holds = rw e }

@@ -1,5 +1,4 @@
 -- The lines of a text, one after another from a place on. Assumes nothing.
--- a line's end, and a byte before it
 use Prim.Native.Nat.{ℕ, suc, _+_, _-_, _<_, _≤_}
 use mathlib.Core.Path.{_≡_, refl, ap, sym, _∙_}
 use mathlib.Core.Bool.{Bool, true, false, cond}
@@ -24,6 +23,7 @@ use Rattle.text.specs.Tally.{rows-read}
 use Rattle.text.proofs.Told.{row-told, row-is-read, head-told, head-is-read}
 use Rattle.text.proofs.Small.{head-from-at}
 
+-- a line's end, and a byte before it
 lines-end : (b : ℕ) (bs : List ℕ) → eqb b 10 ≡ true → lines (b ∷ bs) ≡ record { bytes = []; ended = true } ∷ lines bs
 unfolding lines
 lines-end b bs e = rw e
@@ -62,7 +62,7 @@ module _ (b : ℕ) (bs : List ℕ) where
       let n = length (front bs) in
       ap (longer b) k
       ∙ ap (λ (t : Bool). record { bytes = b ∷ front bs; ended = t } ∷ lines (drop (suc n) bs))
-          (sym (leb·suc-suc (suc n) (length bs)))
+      (sym (leb·suc-suc (suc n) (length bs)))
 
 lines-first : (bs : List ℕ) → 0 < length bs → lines bs ≡ lined (front bs) bs
 unfolding lines longer front
@@ -89,9 +89,9 @@ module _ (t : List ℕ) (at : ℕ) where
       let bs = drop at t in
       let n = length (front bs) in
       let e : ltb n (length bs) ≡ ltb (at + n) (length t) =
-          ap (ltb n) (length-drop at t) ∙ shifted n at (length t) (omega arith) in
+      ap (ltb n) (length-drop at t) ∙ shifted n at (length t) (omega arith) in
       let d : drop (suc n) bs ≡ drop (at + n + 1) t =
-          drop-drop (suc n) at t ∙ let m : at + suc n ≡ at + n + 1 = omega arith in rw m in
+      drop-drop (suc n) at t ∙ let m : at + suc n ≡ at + n + 1 = omega arith in rw m in
       lines-first bs (omega (arith, length-drop at t)) ∙ rw (e, d)
 
 -- a line in form, or not
@@ -154,8 +154,8 @@ module _ (t : List ℕ) where
       let n : length (front t) + 1 ≡ 0 + length (front t) + 1 = omega arith in
       let ls = lines (drop (0 + length (front t) + 1) t) in
       let of-rows : ℕ → Ruling Table = λ k.
-          then (read-line head-form 0 (line-at t 0)) (λ h.
-          then (read-rows k ls) (λ ns. accept (table (getD h 0 (pos 0)) (natural (getD h 1 (pos 0))) ns))) in
+      then (read-line head-form 0 (line-at t 0)) (λ h.
+      then (read-rows k ls) (λ ns. accept (table (getD h 0 (pos 0)) (natural (getD h 1 (pos 0))) ns))) in
       ap read-lines (lines-at t 0 h) ∙ ap of-rows n
 
   -- the table, from its rows
@@ -168,5 +168,5 @@ module _ (t : List ℕ) where
   pub head-bad : head-from t 0 ≡ head-line.Bad → read-lines (lines t) ≡ refuse 13 (0 ∷ [])
   head-bad e = by-test (ltb 0 (length t))
       (λ h. head-here (ltb-true 0 (length t) h) ∙ rw
-        (line-unread head-form 0 (line-at t 0) (head-read ∙ ap head-told e)))
+      (line-unread head-form 0 (line-at t 0) (head-read ∙ ap head-told e)))
       (λ h. no-line t (ltb-false 0 (length t) h))

@@ -5,8 +5,18 @@ use mathlib.Core.List.{List, [], _∷_, _++_, append-assoc}
 use native.Mathlib.Omega.{arith}
 use native.Mathlib.Nat.{add-zero, zero-add}
 use lib.ListN.{length, take, drop, set, length-append, length-drop, take-append-drop}
-use lib.Seq.{take-at, drop-at, drop-append-add, drop-drop, length-take-le, take-length, take-set-le, paste,
-  set-split, sets-eq}
+use lib.Seq.{
+  take-at,
+  drop-at,
+  drop-append-add,
+  drop-drop,
+  length-take-le,
+  take-length,
+  take-set-le,
+  paste,
+  set-split,
+  sets-eq,
+}
 use Rattle.text.specs.Put.{put}
 
 module _ {A : Type 0} (l : List A) (at : ℕ) where
@@ -26,8 +36,13 @@ module _ {A : Type 0} (l : List A) (at : ℕ) where
     unfolding put
     put-length =
         let d = drop (at + length a) l in
-        omega (arith, length-append (take at l) (a ++ d), length-append a d, length-drop (at + length a) l,
-          length-take-le at l (omega arith))
+        omega (
+          arith,
+          length-append (take at l) (a ++ d),
+          length-append a d,
+          length-drop (at + length a) l,
+          length-take-le at l (omega arith),
+        )
 
     -- what is written on from where a writing ends is one writing
     pub put-put : (b : List A) → put (put l at a) (at + length a) b ≡ put l at (a ++ b)
@@ -36,14 +51,14 @@ module _ {A : Type 0} (l : List A) (at : ℕ) where
         let d = drop (at + length a) l in
         let n : at + length a + length b ≡ at + length (a ++ b) = omega (arith, length-append a b) in
         let t : take (at + length a) (take at l ++ (a ++ d)) ≡ take at l ++ a =
-            ap (take (at + length a)) (sym (append-assoc (take at l) a d))
-            ∙ take-at (take at l ++ a) d (at + length a) filled in
+        ap (take (at + length a)) (sym (append-assoc (take at l) a d))
+        ∙ take-at (take at l ++ a) d (at + length a) filled in
         let r : drop (at + length a + length b) (take at l ++ (a ++ d)) ≡ drop (at + length (a ++ b)) l =
-            ap (drop (at + length a + length b)) (sym (append-assoc (take at l) a d))
-            ∙ ap (λ (k : ℕ). drop (k + length b) ((take at l ++ a) ++ d)) (sym filled)
-            ∙ drop-append-add (take at l ++ a) d (length b)
-            ∙ drop-drop (length b) (at + length a) l
-            ∙ ap (λ (k : ℕ). drop k l) n in
+        ap (drop (at + length a + length b)) (sym (append-assoc (take at l) a d))
+        ∙ ap (λ (k : ℕ). drop (k + length b) ((take at l ++ a) ++ d)) (sym filled)
+        ∙ drop-append-add (take at l ++ a) d (length b)
+        ∙ drop-drop (length b) (at + length a) l
+        ∙ ap (λ (k : ℕ). drop k l) n in
         rw (t, r) (append-assoc (take at l) a _ ∙ ap (λ (x : List A). take at l ++ x) (sym (append-assoc a b _)))
 
 pub put-front : {A : Type 0} (l a : List A) → put l 0 a ≡ a ++ drop (length a) l
@@ -58,10 +73,10 @@ put-last l at a d h =
     let k = at + length a in
     let s : set l k d ≡ take k l ++ (d ∷ drop (suc k) l) = set-split l k d h in
     let r : drop k (set l k d) ≡ d ∷ drop (suc k) l =
-        ap (drop k) s ∙ drop-at (take k l) _ k (length-take-le k l (omega arith)) in
+    ap (drop k) s ∙ drop-at (take k l) _ k (length-take-le k l (omega arith)) in
     let n : at + length (a ++ (d ∷ [])) ≡ suc k = omega (arith, length-append a (d ∷ [])) in
     rw (take-set-le at l k d (omega arith), r, n)
-      (ap (λ x. take at l ++ x) (sym (append-assoc a (d ∷ []) (drop (suc k) l))))
+    (ap (λ x. take at l ++ x) (sym (append-assoc a (d ∷ []) (drop (suc k) l))))
 
 -- four elements, one after another
 pub put-four : {A : Type 0} (l : List A) (at : ℕ) (a b c d : A) → at + 4 ≤ length l →

@@ -11,8 +11,22 @@ use lib.Seq.{drop-append-seam}
 use lib.IntN.{ℤ, pos, negsuc}
 use Rattle.paper.specs.Words.{bytes}
 use Rattle.paper.specs.Rows.{accepting}
-use Rattle.paper.specs.Text.{Piece, word, count, production, past, is-digit, digit-count, digits, decimal, read,
-  write, and-then, row-form, head-form}
+use Rattle.paper.specs.Text.{
+  Piece,
+  word,
+  count,
+  production,
+  past,
+  is-digit,
+  digit-count,
+  digits,
+  decimal,
+  read,
+  write,
+  and-then,
+  row-form,
+  head-form,
+}
 use Rattle.rows.specs.Places.{code}
 use Rattle.text.proofs.Numbers.{digit-of}
 use Rattle.text.proofs.Formed.{read-after, read-signed}
@@ -77,9 +91,9 @@ reread-head p k a b =
     reread-word "Dfa(" (production ∷ k-form) (decimal p ++ of-k)
     ∙ reread-production k-form of-k refl p a
     ∙ ap (and-then p)
-      (reread-word ", " (count ∷ word ")" ∷ []) (digits 5 k ++ end)
-        ∙ reread-count (word ")" ∷ []) end refl k b
-        ∙ ap (and-then (pos k)) (reread-word ")" [] []))
+    (reread-word ", " (count ∷ word ")" ∷ []) (digits 5 k ++ end)
+    ∙ reread-count (word ")" ∷ []) end refl k b
+    ∙ ap (and-then (pos k)) (reread-word ")" [] []))
 
 pub reread-row : (f t g : ℕ) (p : ℤ) → f < 100000 → t < 100000 → g < 100000 → code (accepting p) ≤ 65536 →
     read row-form (write row-form (pos f ∷ pos t ∷ pos g ∷ p ∷ [])) ≡ some (pos f ∷ pos t ∷ pos g ∷ p ∷ [])
@@ -92,12 +106,12 @@ reread-row f t g p a b c d =
     reread-word "Trans(" (count ∷ t-form) (digits 5 f ++ of-t)
     ∙ reread-count t-form of-t refl f a
     ∙ ap (and-then (pos f))
-      (reread-word ", " (count ∷ g-form) (digits 5 t ++ of-g)
-        ∙ reread-count g-form of-g refl t b
-        ∙ ap (and-then (pos t))
-          (reread-word ", " (count ∷ p-form) (digits 5 g ++ of-p)
-            ∙ reread-count p-form of-p refl g c
-            ∙ ap (and-then (pos g))
-              (reread-word ", " (production ∷ word ")," ∷ []) (decimal p ++ end)
-                ∙ reread-production (word ")," ∷ []) end refl p d
-                ∙ ap (and-then p) (reread-word ")," [] []))))
+    (reread-word ", " (count ∷ g-form) (digits 5 t ++ of-g)
+    ∙ reread-count g-form of-g refl t b
+    ∙ ap (and-then (pos t))
+    (reread-word ", " (count ∷ p-form) (digits 5 g ++ of-p)
+    ∙ reread-count p-form of-p refl g c
+    ∙ ap (and-then (pos g))
+    (reread-word ", " (production ∷ word ")," ∷ []) (decimal p ++ end)
+    ∙ reread-production (word ")," ∷ []) end refl p d
+    ∙ ap (and-then p) (reread-word ")," [] []))))

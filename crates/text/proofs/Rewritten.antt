@@ -1,5 +1,4 @@
 -- A line in form is what its numbers are written as. Assumes nothing.
--- a word and what follows it
 use Prim.Native.String.{String}
 use Prim.Native.Nat.{ℕ, _+_}
 use mathlib.Core.Path.{_≡_, refl, ap, sym, _∙_}
@@ -11,22 +10,36 @@ use lib.Dec.{eqb}
 use lib.ListN.{drop}
 use lib.IntN.{ℤ, pos, negsuc}
 use Rattle.paper.specs.Words.{bytes}
-use Rattle.paper.specs.Text.{Piece, word, count, production, past, in-form, value, digit-count, digits, decimal,
-  read, write, and-then}
+use Rattle.paper.specs.Text.{
+  Piece,
+  word,
+  count,
+  production,
+  past,
+  in-form,
+  value,
+  digit-count,
+  digits,
+  decimal,
+  read,
+  write,
+  and-then,
+}
 use Rattle.rows.proofs.Rest.{by-test}
 use Rattle.text.proofs.Never.{none-some}
 use Rattle.text.proofs.Formed.{read-after, read-signed}
 use Rattle.text.proofs.Decimal.{formed-digits}
 
+-- a word and what follows it
 pub past-word : (w bs r : List ℕ) → past w bs ≡ some r → w ++ r ≡ bs
 unfolding past
 past-word [] bs r e = let q : bs ≡ r = cc in sym q
 past-word (w ∷ ws) [] r e = none-some e
 past-word (w ∷ ws) (b ∷ bs) r e = by-test (eqb w b)
     (λ f.
-      let q : w ≡ b = eqb-true w b f in
-      let g : past ws bs ≡ some r = sym (ap (λ (t : Bool). cond t (past ws bs) none) f) ∙ e in
-      rw q (ap (λ (x : List ℕ). b ∷ x) (past-word ws bs r g)))
+    let q : w ≡ b = eqb-true w b f in
+    let g : past ws bs ≡ some r = sym (ap (λ (t : Bool). cond t (past ws bs) none) f) ∙ e in
+    rw q (ap (λ (x : List ℕ). b ∷ x) (past-word ws bs r g)))
     (λ f. none-some (sym (ap (λ (t : Bool). cond t (past ws bs) none) f) ∙ e))
 
 -- a number put before others
@@ -59,11 +72,14 @@ module _ (ps : List Piece) (bs : List ℕ) (ns : List ℤ)
   unfolding read
   back-digits e = by-test (in-form bs)
       (λ f.
-        let v = value (digit-count bs) 0 bs in
-        let s = split (pos v) (read ps (drop (digit-count bs) bs)) ns (rw f at e) in
-        (v, s .rest, s .all,
-          ap (λ (x : List ℕ). digits 5 v ++ x) (back (drop (digit-count bs) bs) (s .rest) (s .read))
-          ∙ formed-digits bs f))
+      let v = value (digit-count bs) 0 bs in
+      let s = split (pos v) (read ps (drop (digit-count bs) bs)) ns (rw f at e) in (
+        v,
+        s .rest,
+        s .all,
+        ap (λ (x : List ℕ). digits 5 v ++ x) (back (drop (digit-count bs) bs) (s .rest) (s .read))
+            ∙ formed-digits bs f,
+      ))
       (λ f. none-some (rw f at e))
 
   back-count : read (count ∷ ps) bs ≡ some ns → write (count ∷ ps) ns ≡ bs
@@ -79,7 +95,7 @@ module _ (ps : List Piece) (bs : List ℕ) (ns : List ℤ)
       go (some r) q =
           let s = split (negsuc 0) (read ps r) ns (sym (read-signed ps bs (some r) q) ∙ e) in
           rw (s .all) (ap (λ (x : List ℕ). bytes "-1" ++ x) (back r (s .rest) (s .read)) ∙ past-word
-            (bytes "-1") bs r q)
+          (bytes "-1") bs r q)
 
 pub read-write : (form : List Piece) (bs : List ℕ) (ns : List ℤ) → read form bs ≡ some ns → write form ns ≡ bs
 unfolding read write

@@ -1,5 +1,4 @@
 -- A line's answer, from those of its pieces one after another. Assumes nothing.
--- the words of lines
 use Prim.Native.Nat.{ℕ}
 use mathlib.Core.Path.{_≡_}
 use mathlib.Core.Bool.{true, false}
@@ -11,6 +10,7 @@ use Rattle.text.specs.declared.reading.HeadLine.the-variants as head-lin
 use Rattle.text.specs.Pieces.{field-at, last-at, ends-at}
 use Rattle.text.specs.Reading.{row-of, head-of}
 
+-- the words of lines
 abbrev pub trans : List ℕ
 trans = 84 ∷ 114 ∷ 97 ∷ 110 ∷ 115 ∷ 40 ∷ []
 

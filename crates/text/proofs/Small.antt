@@ -1,5 +1,4 @@
 -- The numbers and the places that lines in form give. Assumes nothing.
--- what holds of a number read, and if there is none, holds of what follows
 use Prim.Native.Nat.{ℕ, _+_, _<_, _≤_}
 use mathlib.Core.Path.{_≡_, refl}
 use mathlib.Core.Bool.{Bool, true, false, cond}
@@ -21,6 +20,7 @@ use Rattle.text.specs.Reading.{on-is, row-of, head-of, line-end, row-fro
 use Rattle.text.proofs.Never.{no-row, no-head}
 use Rattle.text.proofs.Forms.{field-within, last-within}
 
+-- what holds of a number read, and if there is none, holds of what follows
 on-each : {A : Type 0} (P : A → Type 0) (bad : A) (next : ℕ → ℕ → A) (x : Number) → P bad →
     ((v n : ℕ) → x ≡ number.Is v n → P (next v n)) → P (on-is x bad next)
 on-each P bad next (number.Is v n) b k = k v n refl
@@ -53,8 +53,8 @@ row-small l next =
     on-each (RowSmall next) row-line.Bad _ (last-at l c (bytes ", ")) tt (λ p d e₄.
     let h₄ = last-within l c (bytes ", ") p d (h₃ .inside) e₄ in
     either (RowSmall next) (ends-at l d (bytes "),")) (row-line.Row f t g p next) row-line.Bad
-      (record { from = h₁ .small; on = h₂ .small; to = h₃ .small; code = omega (arith, h₄ .small); place = refl })
-      tt))))
+    (record { from = h₁ .small; on = h₂ .small; to = h₃ .small; code = omega (arith, h₄ .small); place = refl })
+    tt))))
 
 beyond : (t : List ℕ) (at : ℕ) → at ≤ line-end t at
 unfolding line-end
@@ -70,13 +70,13 @@ pub row-from-at : (t : List ℕ) (at f o g c n : ℕ) → row-from t at ≡ row-
 unfolding row-from
 row-from-at t at f o g c n e = by-test (ltb (line-end t at) (length t))
     (λ h.
-      let q : row-of (front (drop at t)) (line-end t at + 1) ≡ row-line.Row f o g c n = rw h at e in
-      let s : Small f o g c n (line-end t at + 1) = rw q at (row-small (front (drop at t)) (line-end t at + 1)) in
-      record {
-        small = s;
-        later = omega (arith, s .place, beyond t at);
-        inside = omega (arith, s .place, ltb-true (line-end t at) (length t) h);
-      })
+    let q : row-of (front (drop at t)) (line-end t at + 1) ≡ row-line.Row f o g c n = rw h at e in
+    let s : Small f o g c n (line-end t at + 1) = rw q at (row-small (front (drop at t)) (line-end t at + 1)) in
+    record {
+      small = s;
+      later = omega (arith, s .place, beyond t at);
+      inside = omega (arith, s .place, ltb-true (line-end t at) (length t) h);
+    })
     (λ h. no-row (rw h at e))
 
 pub record HeadAt (t : List ℕ) (p k n : ℕ) : Type 0 where
@@ -102,19 +102,19 @@ head-small l next =
     on-each (HeadIs next) head-line.Bad _ (field-at l a (bytes ", ")) tt (λ k b e₂.
     let h₂ = field-within l a (bytes ", ") k b (h₁ .inside) e₂ in
     either (HeadIs next) (ends-at l b (bytes ")")) (head-line.Head p k next) head-line.Bad
-      (record { code = omega (arith, h₁ .small); few = h₂ .small; place = refl })
-      tt))
+    (record { code = omega (arith, h₁ .small); few = h₂ .small; place = refl })
+    tt))
 
 pub head-from-at : (t : List ℕ) (p k n : ℕ) → head-from t 0 ≡ head-line.Head p k n → HeadAt t p k n
 unfolding head-from
 head-from-at t p k n e = by-test (ltb (line-end t 0) (length t))
     (λ h.
-      let q : head-of (front t) (line-end t 0 + 1) ≡ head-line.Head p k n = rw h at e in
-      let s : HeadSmall p k n (line-end t 0 + 1) = rw q at (head-small (front t) (line-end t 0 + 1)) in
-      record {
-        code = s .code;
-        few = s .few;
-        place = s .place;
-        inside = omega (arith, s .place, ltb-true (line-end t 0) (length t) h);
-      })
+    let q : head-of (front t) (line-end t 0 + 1) ≡ head-line.Head p k n = rw h at e in
+    let s : HeadSmall p k n (line-end t 0 + 1) = rw q at (head-small (front t) (line-end t 0 + 1)) in
+    record {
+      code = s .code;
+      few = s .few;
+      place = s .place;
+      inside = omega (arith, s .place, ltb-true (line-end t 0) (length t) h);
+    })
     (λ h. no-head (rw h at e))

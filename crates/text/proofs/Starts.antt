@@ -1,5 +1,4 @@
 -- A word at a place of a line. Assumes nothing.
--- what is left of a word at i, against what is left of a line at k
 use Prim.Native.Nat.{ℕ, suc, _+_, _-_, _<_, _≤_}
 use mathlib.Core.Path.{_≡_, refl, ap, sym, _∙_}
 use mathlib.Core.Bool.{Bool, true, false, cond, true≢false}
@@ -14,6 +13,7 @@ use Rattle.paper.specs.Text.{past}
 use Rattle.rows.proofs.Rest.{by-test}
 use Rattle.text.specs.Pieces.{is-some, starts}
 
+-- what is left of a word at i, against what is left of a line at k
 module _ (w l : List ℕ) (i k : ℕ) where
   pub word-all : length w ≤ i → past (drop i w) (drop k l) ≡ some (drop k l)
   unfolding past
@@ -26,7 +26,7 @@ module _ (w l : List ℕ) (i k : ℕ) where
 
     module _ (g : k < length l) where
       word-here : past (drop i w) (drop k l) ≡ cond (eqb (getD w i 0) (getD l k 0))
-        (past (drop (suc i) w) (drop (suc k) l)) none
+          (past (drop (suc i) w) (drop (suc k) l)) none
       unfolding past
       word-here = rw (drop-cons w i 0 h, drop-cons l k 0 g)
 

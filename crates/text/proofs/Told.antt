@@ -1,5 +1,4 @@
 -- A line's answer is what reading it by its form gives. Assumes nothing.
--- the numbers of a line's answer
 use Prim.Native.String.{String}
 use Prim.Native.Nat.{ℕ, _≤_}
 use mathlib.Core.Path.{_≡_, refl, ap, sym, _∙_}
@@ -25,6 +24,7 @@ use Rattle.text.specs.Reading.{on-is, row-of, head-of}
 use Rattle.text.proofs.Forms.{field-within, last-within}
 use Rattle.text.proofs.Formed.{read-field, read-no-field, read-last, read-no-last, read-end, read-no-end}
 
+-- the numbers of a line's answer
 abbrev pub row-told : RowLine → Option (List ℤ)
 row-told (row-line.Row f t g p n) = some (pos f ∷ pos t ∷ pos g ∷ signed (uncoded p) ∷ [])
 row-told row-line.Bad = none
@@ -71,11 +71,11 @@ row-is-read l next =
     told-field row-told row-line.Bad refl l (λ o. and-then (pos f) o) refl a ", " _ _ h (λ t b i.
     told-field row-told row-line.Bad refl l (λ o. and-then (pos f) (and-then (pos t) o)) refl b ", " _ _ i (λ g c j.
     told-last row-told row-line.Bad refl l
-      (λ o. and-then (pos f) (and-then (pos t) (and-then (pos g) o))) refl c ", " _ _ j
+    (λ o. and-then (pos f) (and-then (pos t) (and-then (pos g) o))) refl c ", " _ _ j
     (λ p d k.
     told-end row-told row-line.Bad refl l
-      (λ o. and-then (pos f) (and-then (pos t) (and-then (pos g) (and-then (signed (uncoded p)) o))))
-      refl d ")," (row-line.Row f t g p next) k refl))))
+    (λ o. and-then (pos f) (and-then (pos t) (and-then (pos g) (and-then (signed (uncoded p)) o))))
+    refl d ")," (row-line.Row f t g p next) k refl))))
 
 pub head-is-read : (l : List ℕ) (next : ℕ) → head-told (head-of l next) ≡ read head-form l
 unfolding head-of head-form and-then
@@ -83,4 +83,4 @@ head-is-read l next =
     told-last head-told head-line.Bad refl l (λ o. o) refl 0 "Dfa(" _ _ (omega arith) (λ p a h.
     told-field head-told head-line.Bad refl l (λ o. and-then (signed (uncoded p)) o) refl a ", " _ _ h (λ k b i.
     told-end head-told head-line.Bad refl l (λ o. and-then (signed (uncoded p)) (and-then (pos k) o)) refl b ")"
-      (head-line.Head p k next) i refl))
+    (head-line.Head p k next) i refl))

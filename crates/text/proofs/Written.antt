@@ -1,20 +1,19 @@
 -- The bytes of numbers and lines, as they are written one after another. Assumes nothing.
--- a production's bytes by its code
 use Prim.Native.Nat.{ℕ, zero, suc, _+_, _-_, _≤_}
 use mathlib.Core.Path.{_≡_, refl, ap, _∙_}
 use mathlib.Core.List.{List, [], _∷_, _++_, append-assoc}
 use native.Mathlib.Omega.{arith}
 use lib.ListN.{length, length-append}
-use lib.IntN.{ℤ, pos, negsuc}
+use lib.IntN.{ℤ, pos}
 use Rattle.paper.specs.Rows.{signed}
 use Rattle.paper.specs.Words.{bytes}
 use Rattle.paper.specs.Text.{digits, decimal, write, head-form, row-form}
 use Rattle.rows.specs.Places.{uncoded}
 use Rattle.text.specs.Put.{put, Puts}
 use Rattle.text.specs.Written.{head-text}
-use Rattle.text.proofs.Put.{put-put, put-length}
-use Rattle.text.proofs.Digits.{width-most}
+use Rattle.text.proofs.Put.{put-put}
 
+-- a production's bytes by its code
 pub decimal-none : (c : ℕ) → c ≡ 0 → decimal (signed (uncoded c)) ≡ 45 ∷ 49 ∷ []
 unfolding decimal bytes
 decimal-none c e = rw e
@@ -24,15 +23,7 @@ unfolding decimal
 decimal-some zero h = absurd (h refl)
 decimal-some (suc n) h = let e : suc n - 1 ≡ n = omega arith in rw e
 
-pub decimal-most : (z : ℤ) → length (decimal z) ≤ 5
-unfolding decimal bytes
-decimal-most (pos n) = width-most 5 n
-decimal-most (negsuc n) = omega arith
-
 module _ {A : Type 0} {l m a : List A} {at n r : ℕ} (p : Puts l at r a m n) where
-  pub puts-length : at + r ≤ length l → length m ≡ length l
-  puts-length h = ap length (p .holds) ∙ put-length l at a (omega arith)
-
   -- what is written on from where a writing ends is one writing
   pub puts-on : {m′ b : List A} {n′ r′ : ℕ} → at + r ≤ length l → Puts m n r′ b m′ n′ →
       Puts l at (r + r′) (a ++ b) m′ n′
@@ -40,9 +31,9 @@ module _ {A : Type 0} {l m a : List A} {at n r : ℕ} (p : Puts l at r a m n) wh
     place = omega (arith, q .place, p .place, length-append a b);
     within = omega arith;
     holds = q .holds
-      ∙ ap (λ (x : List A). put x n b) (p .holds)
-      ∙ ap (λ (x : ℕ). put (put l at a) x b) (p .place)
-      ∙ put-put l at a (omega arith) b
+        ∙ ap (λ (x : List A). put x n b) (p .holds)
+        ∙ ap (λ (x : ℕ). put (put l at a) x b) (p .place)
+        ∙ put-put l at a (omega arith) b;
   }
 
   -- the same bytes
@@ -66,12 +57,12 @@ head-parts p k =
 
 pub row-parts : (f t g : ℕ) (p : ℤ) →
     ((((((84 ∷ 114 ∷ 97 ∷ 110 ∷ 115 ∷ 40 ∷ []) ++ digits 5 f) ++ ((44 ∷ 32 ∷ []) ++ digits 5 t))
-      ++ ((44 ∷ 32 ∷ []) ++ digits 5 g))
-      ++ (44 ∷ 32 ∷ []))
-      ++ decimal p)
-      ++ (41 ∷ 44 ∷ 10 ∷ [])
+    ++ ((44 ∷ 32 ∷ []) ++ digits 5 g))
+    ++ (44 ∷ 32 ∷ []))
+    ++ decimal p)
+    ++ (41 ∷ 44 ∷ 10 ∷ [])
     ≡ write row-form (pos f ∷ pos t ∷ pos g ∷ p ∷ []) ++ (10 ∷ [])
 unfolding write row-form decimal bytes
 row-parts f t g p =
     row-grouped (84 ∷ 114 ∷ 97 ∷ 110 ∷ 115 ∷ 40 ∷ []) (digits 5 f) (44 ∷ 32 ∷ []) (digits 5 t) (digits 5 g) (decimal p)
-      (41 ∷ 44 ∷ []) (10 ∷ [])
+    (41 ∷ 44 ∷ []) (10 ∷ [])

@@ -1,5 +1,4 @@
 -- A text read line by line, each at a place.
--- What follows a number that was read.
 use Prim.Native.Nat.{ℕ, _+_}
 use mathlib.Core.Bool.{cond}
 use mathlib.Core.List.{List, [], _∷_}
@@ -14,6 +13,7 @@ use Rattle.text.specs.declared.reading.HeadLine.{HeadLine}
 use Rattle.text.specs.declared.reading.HeadLine.the-variants as head-line
 use Rattle.text.specs.Pieces.{field-at, last-at, ends-at}
 
+-- What follows a number that was read.
 abbrev pub on-is : {A : Type 0} → Number → A → (ℕ → ℕ → A) → A
 on-is (number.Is v n) bad k = k v n
 on-is number.Bad bad k = bad

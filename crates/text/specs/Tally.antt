@@ -1,5 +1,4 @@
 -- The rows of a text, and what one pass over them learns.
--- The numbers of the rows from a place on.
 use Prim.Native.Nat.{ℕ, _+_, _≤_}
 use mathlib.Core.Path.{_≡_}
 use mathlib.Core.Bool.{true, _&&_}
@@ -16,6 +15,7 @@ use Rattle.text.specs.declared.passes.Tally.{Tally}
 use Rattle.text.specs.declared.passes.Pass.{Pass}
 use Rattle.text.specs.declared.passes.Pass.the-variants.{Rows, Bad}
 
+-- The numbers of the rows from a place on.
 unfoldable pub rows-read : List ℕ → ℕ → Ruling (List ℤ)
 rows-read t at = read-rows at (lines (drop at t))
 

@@ -1,5 +1,4 @@
 -- A table's text, line by line, as its rows are written.
--- The head line with its LF.
 use Prim.Native.Nat.{ℕ}
 use mathlib.Core.List.{List, [], _∷_, _++_}
 use lib.IntN.{ℤ, pos}
@@ -7,6 +6,7 @@ use Rattle.paper.specs.Rows.{Row, signed}
 use Rattle.paper.specs.Text.{write, head-form, row-form}
 use Rattle.rows.specs.Places.{uncoded}
 
+-- The head line with its LF.
 unfoldable pub head-text : ℤ → ℕ → List ℕ
 head-text p k = write head-form (p ∷ pos k ∷ []) ++ (10 ∷ [])
 

@@ -1,8 +1,11 @@
 // Document 01, module 7: tables as text.
 use crate::passes::Pass;
 use crate::reading::HeadLine;
-use paper::{Reading, Refusal, Writing};
-use rows::{checks, numbers};
+use paper::Reading;
+use paper::Refusal;
+use paper::Writing;
+use rows::checks;
+use rows::numbers;
 
 mod passes;
 mod pieces;
@@ -20,7 +23,7 @@ ghost use Rattle.paper.specs.Text.{text-out, text-in};
 // Text out: a table's text at the front of the output.
 pub fn text_out(prod0: i32, k: usize, rows: &[i32], out: &mut [u8]) -> Writing
     ensures { λ r. ⌜ Writes (text-out prod0 k (now (rows .entry)) (length (now (out .entry))))
-      r (now (out .entry)) (now (out .exit)) ⌝ }
+        r (now (out .entry)) (now (out .exit)) ⌝ }
 {
     if checks::row_slice(rows) {
         return Writing::Refused(Refusal::Length);
@@ -54,7 +57,7 @@ fn ranged(code: usize, k: usize, fits: bool) -> bool
 // Text in: the rows of a text at the front of the output.
 pub fn text_in(text: &[u8], out: &mut [i32]) -> Reading
     ensures { λ r. ⌜ Reads (text-in (now (text .entry)) (length (now (out .entry))))
-      r (now (out .entry)) (now (out .exit)) ⌝ }
+        r (now (out .entry)) (now (out .exit)) ⌝ }
 {
     if out.len() < 16384 {
         return Reading::Refused(Refusal::Length);
@@ -76,5 +79,9 @@ pub fn text_in(text: &[u8], out: &mut [i32]) -> Reading
         return Reading::Refused(Refusal::Order);
     }
     passes::fill(text, next, out);
-    Reading::Read { prod0: numbers::production_of(code), k, rows: tally.rows }
+    Reading::Read {
+        prod0: numbers::production_of(code),
+        k,
+        rows: tally.rows,
+    }
 }

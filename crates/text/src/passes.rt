@@ -2,7 +2,6 @@
 use crate::reader;
 use crate::reading::RowLine;
 use rows::numbers;
-
 ghost use mathlib.Core.Path.{_≡_};
 ghost use mathlib.Core.Bool.{_&&_};
 ghost use Prim.Native.Nat.{_+_, _<_, _≤_};
@@ -57,7 +56,12 @@ fn tallied(tally: Tally, from: usize, on: usize, to: usize, code: usize) -> Tall
     let key = from * 65536 + on;
     let fits = both(tally.fits, row_fits(from, on, to, code));
     let rising = both(tally.rising, tally.least <= key);
-    Tally { rows: tally.rows + 1, fits, rising, least: key + 1 }
+    Tally {
+        rows: tally.rows + 1,
+        fits,
+        rising,
+        least: key + 1,
+    }
 }
 
 // The pass over the lines from a place on: every row in form, or the offset of the first bad line.
@@ -65,7 +69,12 @@ pub fn scan(text: &[u8], at: usize) -> Pass
     requires { ⌜ at ≤ length (now text) ⌝ }
     ensures { λ r. ⌜ scanned r ≡ tally-from (now (text .entry)) at start ⌝ }
 {
-    let mut tally = Tally { rows: 0, fits: true, rising: true, least: 0 };
+    let mut tally = Tally {
+        rows: 0,
+        fits: true,
+        rising: true,
+        least: 0,
+    };
     let mut place = at;
     while place < text.len() {
         let RowLine::Row(from, on, to, code, next) = reader::row_at(text, place) else {

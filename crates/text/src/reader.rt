@@ -1,7 +1,7 @@
 // A reader holds the text and its place; it is taken apart, and the work is done on the slice and the place.
 use crate::reading;
-use crate::reading::{HeadLine, RowLine};
-
+use crate::reading::HeadLine;
+use crate::reading::RowLine;
 ghost use mathlib.Core.Path.{_≡_};
 ghost use Rattle.text.specs.Reading.{row-from, head-from};
 

@@ -1,7 +1,6 @@
 // Text in: lines, each at a place of the text.
 use crate::pieces;
 use crate::pieces::Number;
-
 ghost use mathlib.Core.Path.{_≡_};
 ghost use Prim.Native.Nat.{_+_, _<_, _≤_};
 ghost use lib.ListN.{length, drop};

@@ -1,6 +1,5 @@
 // Text out: words, numbers and lines, each at a place of the output.
 use rows::numbers;
-
 ghost use mathlib.Core.Path.{_≡_};
 ghost use mathlib.Core.Bool.{true};
 ghost use Prim.Native.Nat.{_+_, _*_, _<_, _≤_};
@@ -77,7 +76,7 @@ fn put_production(out: &mut [u8], at: usize, code: usize) -> usize
 fn put_field(out: &mut [u8], at: usize, word: &[u8], n: usize) -> usize
     requires { ⌜ (at + (length (now word) + 5) ≤ length (now out)) × (n < 100000) ⌝ }
     ensures { λ r. ⌜ Puts (now (out .entry)) at (length (now (word .entry)) + 5)
-      (now (word .entry) ++ digits 5 n) (now (out .exit)) r ⌝ }
+        (now (word .entry) ++ digits 5 n) (now (out .exit)) r ⌝ }
 {
     let place = put_word(out, at, word);
     put_number(out, place, n)
@@ -111,7 +110,7 @@ fn put_row(out: &mut [u8], at: usize, from: usize, on: usize, to: usize, code: u
 pub fn put_rows(out: &mut [u8], at: usize, table: &[i32]) -> usize
     requires { ⌜ (at + length (now table) * 9 ≤ length (now out)) × (every row-fits (rows-in (now table)) ≡ true) ⌝ }
     ensures { λ r. ⌜ Puts (now (out .entry)) at (length (now (table .entry)) * 9)
-      (rows-text (rows-in (now (table .entry)))) (now (out .exit)) r ⌝ }
+        (rows-text (rows-in (now (table .entry)))) (now (out .exit)) r ⌝ }
 {
     let n = table.len() / 4;
     let mut place = at;

@@ -1,6 +1,6 @@
 // Predict, in both modes.
-use cases::slice;
 use crate::say;
+use cases::slice;
 use paper::Mode;
 
 pub fn all() {
@@ -51,8 +51,24 @@ fn stray() {
     let before = [9u16, 5];
     let between = [5u16, 9, 6];
     let only = [6u16, 9];
-    both(b"a stray token before a row is stepped over", -1, 2, &rows, &before, 1, 1);
-    both(b"a stray token between two rows is stepped over", -1, 3, &rows, &between, 2, 2);
+    both(
+        b"a stray token before a row is stepped over",
+        -1,
+        2,
+        &rows,
+        &before,
+        1,
+        1,
+    );
+    both(
+        b"a stray token between two rows is stepped over",
+        -1,
+        3,
+        &rows,
+        &between,
+        2,
+        2,
+    );
     neither(b"stray tokens alone give 11", -1, 2, &rows, 2, &only, 11);
 }
 
@@ -60,15 +76,39 @@ fn behind() {
     let rows = [0i32, 5, 1, 1, 1, 6, 2, 2];
     let tokens = [5u16, 6];
     let late = [9u16, 5];
-    both(b"tokens behind the table's k are not read", -1, 1, &rows, &tokens, 1, 1);
+    both(
+        b"tokens behind the table's k are not read",
+        -1,
+        1,
+        &rows,
+        &tokens,
+        1,
+        1,
+    );
     neither(b"nor when the first was stray", -1, 1, &rows, 2, &late, 11);
 }
 
 fn short() {
     let rows = [0i32, 5, 1, 1];
     let tokens = [5u16];
-    neither(b"a short stream is 10 though a production was reached", -1, 2, &rows, 2, &tokens, 10);
-    neither(b"and though prod0 accepts", 4, 2, &rows, 2, slice::front_tokens(&tokens, 0), 10);
+    neither(
+        b"a short stream is 10 though a production was reached",
+        -1,
+        2,
+        &rows,
+        2,
+        &tokens,
+        10,
+    );
+    neither(
+        b"and though prod0 accepts",
+        4,
+        2,
+        &rows,
+        2,
+        slice::front_tokens(&tokens, 0),
+        10,
+    );
     neither(b"9 comes before 10", -1, 2, &rows, 1, &tokens, 9);
 }
 
@@ -76,9 +116,25 @@ fn mismatch() {
     let rows = [0i32, 5, 1, 1];
     let tokens = [5u16, 6];
     let none = slice::front_tokens(&tokens, 0);
-    neither(b"table k over stream k without tokens is 9", -1, 2, &rows, 1, none, 9);
+    neither(
+        b"table k over stream k without tokens is 9",
+        -1,
+        2,
+        &rows,
+        1,
+        none,
+        9,
+    );
     neither(b"and with tokens enough", -1, 2, &rows, 1, &tokens, 9);
-    neither(b"a stream k of 0 under a table k of 1 is 9", -1, 1, &rows, 0, none, 9);
+    neither(
+        b"a stream k of 0 under a table k of 1 is 9",
+        -1,
+        1,
+        &rows,
+        0,
+        none,
+        9,
+    );
 }
 
 fn nothing() {
@@ -86,7 +142,15 @@ fn nothing() {
     let tokens = [5u16];
     let none = slice::front_tokens(&tokens, 0);
     both(b"no tokens and k 0 give prod0", 4, 0, &rows, none, 4, 0);
-    neither(b"no tokens, k 0 and prod0 -1 give 11", -1, 0, &rows, 0, none, 11);
+    neither(
+        b"no tokens, k 0 and prod0 -1 give 11",
+        -1,
+        0,
+        &rows,
+        0,
+        none,
+        11,
+    );
     both(b"k 0 reads no token", 0, 0, &rows, &tokens, 0, 0);
 }
 
@@ -97,9 +161,23 @@ fn root() {
     let archive = predict::predict(Mode::Archive, 3, 2, &rows, 2, &dead);
     let intake = predict::predict(Mode::Intake, 3, 2, &rows, 2, &dead);
     let stray = [9u16, 9];
-    say::say(b"rows entered, none accepting, prod0 3: archive 12", say::is_refused(archive, 12));
-    say::say(b"rows entered, none accepting, prod0 3: intake 3", say::is_predicted(intake, 3, 1));
-    both(b"no row entered, prod0 3: 3 in both", 3, 2, &rows, &stray, 3, 0);
+    say::say(
+        b"rows entered, none accepting, prod0 3: archive 12",
+        say::is_refused(archive, 12),
+    );
+    say::say(
+        b"rows entered, none accepting, prod0 3: intake 3",
+        say::is_predicted(intake, 3, 1),
+    );
+    both(
+        b"no row entered, prod0 3: 3 in both",
+        3,
+        2,
+        &rows,
+        &stray,
+        3,
+        0,
+    );
 }
 
 // A with B of document 01: archive's rows have lost the production of 5, intake's have not.
@@ -109,10 +187,42 @@ fn united() {
     let whole = [5u16, 6];
     let other = [5u16, 9];
     let late = [9u16, 5];
-    neither(b"archive A with B on 5 6: 11", -1, 1, &archive, 16, &whole, 11);
-    both(b"intake A with B on 5 6: 2 after 2", -1, 2, &intake, &whole, 2, 2);
-    both(b"intake A with B on 5 9: 1 after 1", -1, 2, &intake, &other, 1, 1);
-    both(b"intake A with B on 9 5: 1 after 1", -1, 2, &intake, &late, 1, 1);
+    neither(
+        b"archive A with B on 5 6: 11",
+        -1,
+        1,
+        &archive,
+        16,
+        &whole,
+        11,
+    );
+    both(
+        b"intake A with B on 5 6: 2 after 2",
+        -1,
+        2,
+        &intake,
+        &whole,
+        2,
+        2,
+    );
+    both(
+        b"intake A with B on 5 9: 1 after 1",
+        -1,
+        2,
+        &intake,
+        &other,
+        1,
+        1,
+    );
+    both(
+        b"intake A with B on 9 5: 1 after 1",
+        -1,
+        2,
+        &intake,
+        &late,
+        1,
+        1,
+    );
 }
 
 // T of document 01, and what archive shrink makes of it.
@@ -121,5 +231,13 @@ fn last_shrink() {
     let small = [0i32, 5, 1, 1, 0, 7, 1, 1];
     let tokens = [5u16, 6];
     both(b"T on 5 6: 2 after 2", -1, 2, &whole, &tokens, 2, 2);
-    both(b"T shrunk by archive on 5 6: 1 after 1", -1, 2, &small, &tokens, 1, 1);
+    both(
+        b"T shrunk by archive on 5 6: 1 after 1",
+        -1,
+        2,
+        &small,
+        &tokens,
+        1,
+        1,
+    );
 }

@@ -1,7 +1,7 @@
 // Shrink: the worked cases of document 01.
+use crate::say;
 use cases::answer;
 use cases::slice;
-use crate::say;
 use paper::Making;
 use paper::Mode;
 
@@ -50,7 +50,10 @@ pub fn shrinks(
 ) {
     let n = shrunk(mode, prod0, 2, rows, states, out);
     let part = slice::front_numbers(out, n);
-    say::say(name, part.len() == expected.len() && slice::is_part(part, expected, 0));
+    say::say(
+        name,
+        part.len() == expected.len() && slice::is_part(part, expected, 0),
+    );
 }
 
 // Shrink refuses by a number.
@@ -71,8 +74,24 @@ pub fn refused(name: &[u8], mode: Mode, prod0: i32, rows: &[i32], number: usize,
 fn joined(out: &mut [i32]) {
     let rows = [0i32, 5, 1, 1, 0, 7, 3, 1, 1, 6, 2, 2];
     let small = [0i32, 5, 1, 1, 0, 7, 1, 1];
-    shrinks(b"archive shrink of T: 3 states, 2 rows", Mode::Archive, -1, &rows, 3, &small, out);
-    shrinks(b"intake shrink of T: T itself", Mode::Intake, -1, &rows, 4, &rows, out);
+    shrinks(
+        b"archive shrink of T: 3 states, 2 rows",
+        Mode::Archive,
+        -1,
+        &rows,
+        3,
+        &small,
+        out,
+    );
+    shrinks(
+        b"intake shrink of T: T itself",
+        Mode::Intake,
+        -1,
+        &rows,
+        4,
+        &rows,
+        out,
+    );
 }
 
 // State 0 accepts, and takes the rows of another.
@@ -80,16 +99,62 @@ fn root(out: &mut [i32]) {
     let rows = [0i32, 3, 1, 1, 0, 5, 2, 2];
     let none = [0i32];
     let none = slice::front_numbers(&none, 0);
-    shrinks(b"archive shrink where 0 accepts: 2 states, no rows", Mode::Archive, 1, &rows, 2, none, out);
-    shrinks(b"intake shrink where 0 accepts: 3 states, 2 rows", Mode::Intake, 1, &rows, 3, &rows, out);
+    shrinks(
+        b"archive shrink where 0 accepts: 2 states, no rows",
+        Mode::Archive,
+        1,
+        &rows,
+        2,
+        none,
+        out,
+    );
+    shrinks(
+        b"intake shrink where 0 accepts: 3 states, 2 rows",
+        Mode::Intake,
+        1,
+        &rows,
+        3,
+        &rows,
+        out,
+    );
 }
 
 // What shrink gives is not ruled: its rows may fall.
 fn twice(out: &mut [i32]) {
     let rows = [0i32, 4, 1, 7, 0, 6, 2, -1, 2, 4, 3, 7];
     let small = [0i32, 4, 1, 7, 0, 6, 2, -1, 2, 4, 1, 7];
-    shrinks(b"archive shrink to a falling row: 3 states", Mode::Archive, -1, &rows, 3, &small, out);
-    shrinks(b"intake shrink to a falling row: 3 states", Mode::Intake, -1, &rows, 3, &small, out);
-    refused(b"archive shrinking that again: 4", Mode::Archive, -1, &small, 4, out);
-    refused(b"intake shrinking that again: 4", Mode::Intake, -1, &small, 4, out);
+    shrinks(
+        b"archive shrink to a falling row: 3 states",
+        Mode::Archive,
+        -1,
+        &rows,
+        3,
+        &small,
+        out,
+    );
+    shrinks(
+        b"intake shrink to a falling row: 3 states",
+        Mode::Intake,
+        -1,
+        &rows,
+        3,
+        &small,
+        out,
+    );
+    refused(
+        b"archive shrinking that again: 4",
+        Mode::Archive,
+        -1,
+        &small,
+        4,
+        out,
+    );
+    refused(
+        b"intake shrinking that again: 4",
+        Mode::Intake,
+        -1,
+        &small,
+        4,
+        out,
+    );
 }

@@ -4,3 +4,5 @@ pub mod Steps
 pub mod Ongoing
 pub mod Looked
 pub mod Scanning
+pub mod Passing
+pub mod Outcomes

@@ -1,6 +1,6 @@
 -- Two productions of one state as codes: what they come to, by the mode.
 -- Assumes nothing.
-use mathlib.Core.Path.{_≡_, refl, ap, sym, _∙_}
+use mathlib.Core.Path.{_≡_, refl, ap, sym, _∙_, subst}
 use mathlib.Core.Bool.{true, false}
 use mathlib.Core.Option.{Option, none, some}
 use mathlib.Core.List.{List, [], _∷_}
@@ -65,14 +65,15 @@ module _ (mode : Mode) (p q : Option ℕ) where
   archive-root e = rw e
 
 module _ (mode : Mode) (a b : ℕ) where
-  pub intake-longer : mode ≡ Intake → a < b → b ≡ united-k mode a b
+  pub intake-k : mode ≡ Intake → (n : ℕ) → n ≡ max a b → n ≡ united-k mode a b
   unfolding united-k
-  intake-longer e h = rw e (omega arith)
-
-  pub intake-as-long : mode ≡ Intake → b ≤ a → a ≡ united-k mode a b
-  unfolding united-k
-  intake-as-long e h = rw e (omega arith)
+  intake-k e n d = rw e d
 
   pub archive-k : mode ≡ Archive → a ≡ united-k mode a b
   unfolding united-k
   archive-k e = rw e
+
+-- what two productions come to, as another says it
+pub meets-as : {g h : Ruling (Option ℕ)} {x y : Meet} → g ≡ h → x ≡ y → Meets g x → Meets h y
+meets-as {g} {h} {x} {y} e d m =
+    subst (λ (k : Ruling (Option ℕ)). Meets k y) e (subst (λ (z : Meet). Meets g z) d m)

@@ -8,10 +8,9 @@ use Prim.Native.Nat.{ℕ, zero, suc, _+_, _*_, _/_, _<_, _≤_}
 use native.Mathlib.Omega.{arith}
 use borrow.Author.Tests.{eq-eqb, ne-eqb}
 use lib.Dec.{eqb}
-use lib.ListN.{length, getD, set, length-set}
-use lib.Seq.{getD-set-same, getD-set-other}
+use lib.ListN.{length, getD, set}
 use lib.IntN.{ℤ}
-use Rattle.laws.proofs.Tests.{Test, same, apart, test, never}
+use Rattle.laws.proofs.Tests.{never}
 use Rattle.paper.specs.declared.Mode.{Mode}
 use Rattle.paper.specs.declared.Mode.the-variants.{Archive, Intake}
 use Rattle.paper.specs.Rows.{Row, Table, rows-in}
@@ -29,8 +28,10 @@ use Rattle.trees.proofs.Paths.{word}
 use Rattle.trees.proofs.Order.{Next, Ordered, ordered}
 use Rattle.trees.proofs.Matching.{Matching}
 use Rattle.trees.proofs.United.{begun, matching-start}
+use Rattle.ruled.specs.Into.{Holds, Clear}
+use Rattle.ruled.proofs.Arrays.{holds-set, holds-as}
 use Rattle.grow.specs.Held.{held, Laid}
-use Rattle.unite.specs.Taking.{so-far, all-rows, Stands, Over, Unites, Clashes, Overflows, Maps, Treed}
+use Rattle.unite.specs.Taking.{so-far, all-rows, Stands, Over, Unites, Clashes, Overflows, Treed}
 use Rattle.unite.proofs.Steps.{one-row, after, step-refused, step-taken, match-on, first-row, many-stay}
 
 -- rows as a table that says nothing of state 0
@@ -48,29 +49,16 @@ unfolding begun
 matching-none mode rs tr = subst (λ (p : Option ℕ). Matching mode (word (plain rs)) none [] (so-far p 0 rs []))
     (merge-none mode) (matching-start mode (plain rs) tr none 0 (λ p q e f. absurd (never e)))
 
--- ---- the map
-pub maps-none : (map : List ℕ) → Maps (λ s. 0) map → Maps (matched []) map
-unfolding matched
-maps-none map m = record { sized = m .sized; held = m .held }
-
-pub maps-set : (f g : ℕ → ℕ) (map : List ℕ) (x v : ℕ) → x < 1024 → Maps f map
-    → ((s : ℕ) → g s ≡ cond (eqb x s) v (f s)) → Maps g (set map x v)
-maps-set f g map x v h m e = record {
-  sized = simp length-set (m .sized);
-  held = λ s l. go s l (test x s);
-}
-  where
-    go : (s : ℕ) → s < 1024 → Test x s (eqb x s) → getD (set map x v) s 0 ≡ g s
-    go s l (same k b) =
-        ap (λ (z : ℕ). getD (set map x v) z 0) (sym k) ∙ getD-set-same map x v 0 (omega (arith, m .sized))
-        ∙ sym (e s ∙ ap (λ (b : Bool). cond b v (f s)) b)
-    go s l (apart k b) =
-        getD-set-other map x s v 0 (λ d. k (sym d)) ∙ m .held s l
-        ∙ sym (e s ∙ ap (λ (b : Bool). cond b v (f s)) b)
-
+-- ---- the map of matches
 matched-cons : (ms : List (ℕ × ℕ)) (x v s : ℕ) → matched ((x, v) ∷ ms) s ≡ cond (eqb x s) v (matched ms s)
 unfolding matched
 matched-cons ms x v s = refl
+
+matched-here : (ms : List (ℕ × ℕ)) (x v : ℕ) → matched ((x, v) ∷ ms) x ≡ v
+matched-here ms x v = matched-cons ms x v x ∙ rw (eq-eqb x x refl)
+
+matched-other : (ms : List (ℕ × ℕ)) (x v s : ℕ) → (x ≡ s → ⊥) → matched ((x, v) ∷ ms) s ≡ matched ms s
+matched-other ms x v s n = matched-cons ms x v s ∙ rw (ne-eqb x s n)
 
 matched-none : (s : ℕ) → matched [] s ≡ 0
 unfolding matched
@@ -92,13 +80,13 @@ pub record Ongoing (mode : Mode) (xs : List Row) (b buf : List ℤ) (map : List 
   pub done : List Row
   pub order : Ordered done (rest b i)
   pub matching : Matching mode (word (plain xs)) none done (so-far none 0 (held buf n) matches)
-  pub maps : Maps (matched matches) map
+  pub maps : Holds (matched matches) map
   pub small : (s : ℕ) → matched matches s ≤ 1023
   pub left : (p : Option ℕ) (k : ℕ)
       → all-rows mode xs (rows-in b) p k ≡ take-rows mode (so-far p k (held buf n) matches) (rest b i)
 
 pub begins : (mode : Mode) (b buf : List ℤ) (map : List ℕ) (n : ℕ) → Laid buf n → Tree (held buf n) → Treed b
-    → Maps (λ s. 0) map → Ongoing mode (held buf n) b buf map n 0
+    → Clear map → Ongoing mode (held buf n) b buf map n 0
 begins mode b buf map n l tr t m = record {
   within = omega arith;
   laid = l;
@@ -106,7 +94,7 @@ begins mode b buf map n l tr t m = record {
   done = [];
   order = ordered (rows-in b) (t .tree);
   matching = matching-none mode (held buf n) tr;
-  maps = maps-none map m;
+  maps = holds-as matched-none m;
   small = λ s. omega (arith, matched-none s);
   left = λ p k. refl;
 }
@@ -167,8 +155,8 @@ module _ (mode : Mode) (xs : List Row) (b buf : List ℤ) (map : List ℕ) (n i 
           order = first .1;
           matching = match-on mode (word (plain xs)) none none 0 (o .done) (held buf n) (o .matches) r w (o .matching)
             (first .0) (v .is);
-          maps = maps-set (matched (o .matches)) (matched ((r .to, s) ∷ o .matches)) map (r .to) s
-            (omega (arith, row-fit .to)) (o .maps) (matched-cons (o .matches) (r .to) s);
+          maps = holds-set (r .to) s (o .maps) (omega (arith, row-fit .to)) (matched-here (o .matches) (r .to) s)
+            (matched-other (o .matches) (r .to) s);
           small = matched-small (o .matches) (r .to) s (v .small) (o .small);
           left = λ p k. here p k
             ∙ step-taken mode (held buf n) (o .matches) (o .matching .tree) r w (v .is) p k (rest b (i + 1));

@@ -20,6 +20,7 @@ use Rattle.rows.specs.Places.{row-at, rest}
 use Rattle.rows.proofs.Rest.{rest-cons, rest-end, length-rows}
 use Rattle.rows.proofs.Fits.{Fit}
 use Rattle.rows.proofs.Bracket.{fit-at}
+use Rattle.ruled.specs.Into.{Clear}
 use Rattle.trees.specs.Reach.{Seat, Finder, sit, said, seat-of, onward}
 use Rattle.trees.proofs.Tree.{Tree}
 use Rattle.trees.proofs.Paths.{path, word, onward-inv}
@@ -27,7 +28,7 @@ use Rattle.trees.proofs.Grown.{Grown, grown-here, grown-other}
 use Rattle.trees.proofs.Order.{Next, Ordered, ordered}
 use Rattle.trees.proofs.Took.{lead}
 use Rattle.trees.proofs.Matching.{Matching, start-of, grown-D}
-use Rattle.unite.specs.Taking.{so-far, all-rows, Clashes, Accepts, Maps, Treed}
+use Rattle.unite.specs.Taking.{so-far, all-rows, Clashes, Accepts, Treed}
 use Rattle.unite.specs.Looking.{seek, looked, Looks}
 use Rattle.unite.specs.declared.scan.Look.{Look}
 use Rattle.unite.proofs.Steps.{one-row, after, step-refused, step-taken, match-on, first-row}
@@ -51,7 +52,7 @@ pub record Scanning (mode : Mode) (xs : List Row) (b : List ℤ) (map : List ℕ
   pub left : (p : Option ℕ) (k : ℕ) → all-rows mode xs (rows-in b) p k ≡ take-rows mode (so-far p k rows matches) (rest b i)
 
 -- no row reaches any state but 0
-marks-none : (xs : List Row) (map : List ℕ) → Maps (λ s. 0) map → Marks xs [] map
+marks-none : (xs : List Row) (map : List ℕ) → Clear map → Marks xs [] map
 unfolding path onward find seat-of
 marks-none xs map m [] y e = let z : y .state ≡ 0 = cc in ap (λ (s : ℕ). getD map s 0) z ∙ m .held 0 (omega arith)
 marks-none xs map m (t ∷ v) y e = absurd (never (sym (go (path none (find []) v)) ∙ e))
@@ -60,7 +61,7 @@ marks-none xs map m (t ∷ v) y e = absurd (never (sym (go (path none (find []) 
     go none = refl
     go (some z) = refl
 
-pub scan-begins : (mode : Mode) (xs : List Row) (b : List ℤ) (map : List ℕ) → Tree xs → Treed b → Maps (λ s. 0) map
+pub scan-begins : (mode : Mode) (xs : List Row) (b : List ℤ) (map : List ℕ) → Tree xs → Treed b → Clear map
     → Scanning mode xs b map 0
 scan-begins mode xs b map tr t m = record {
   within = omega arith;

@@ -116,11 +116,6 @@ joining mode p k xs ys = then (all-rows mode xs ys p k) (λ u. within (u .table)
 pub record Refuses (mode : Mode) (xs ys : List Row) (r : Making) : Type 0 where
   pub is : (p : Option ℕ) (k : ℕ) (old : List ℤ) → Makes (joining mode p k xs ys) r old old
 
--- The array of matches holds for each state what f says of it.
-pub record Maps (f : ℕ → ℕ) (map : List ℕ) : Type 0 where
-  pub sized : length map ≡ 1024
-  pub held : (s : ℕ) → s < 1024 → getD map s 0 ≡ f s
-
 -- The rows of a slice are those of a tree with at most 1,023 rows.
 pub record Treed (ns : List ℤ) : Type 0 where
   pub passed : Passed ns

@@ -2,7 +2,7 @@
 use paper::{Mode, Production};
 
 ghost use mathlib.Core.Path.{_≡_};
-ghost use Prim.Native.Nat.{_≤_, max};
+ghost use Prim.Native.Nat.{_≤_};
 ghost use Rattle.paper.specs.Unite.{agree, taken, root, united-k};
 ghost use Rattle.rows.specs.Places.{uncoded};
 ghost use Rattle.unite.specs.Met.{Meets};
@@ -60,14 +60,9 @@ pub fn root(mode: Mode, p: usize, q: usize) -> Meet
 pub fn united_k(mode: Mode, a: usize, b: usize) -> usize
     ensures { λ r. ⌜ r ≡ united-k mode a b ⌝ }
 {
+    let most = grow::larger(a, b);
     match mode {
-        Mode::Intake => {
-            if a < b {
-                b
-            } else {
-                a
-            }
-        }
+        Mode::Intake => most,
         Mode::Archive => a,
     }
 }

@@ -11,7 +11,8 @@ ghost use Rattle.paper.specs.Rows.{rows-in};
 ghost use Rattle.rows.specs.Places.{row-at, uncoded};
 ghost use Rattle.rows.specs.Search.{Passed};
 ghost use mathlib.Core.Option.{some};
-ghost use Rattle.unite.specs.Taking.{Scanned, Maps, Treed};
+ghost use Rattle.ruled.specs.Into.{Clear};
+ghost use Rattle.unite.specs.Taking.{Scanned, Treed};
 ghost use Rattle.unite.specs.Looking.{looked, seek, Looks};
 
 // What one row comes to: CLASH, or the state of the first that it matches, 65,535 for none.
@@ -56,7 +57,7 @@ fn look_up(mode: Mode, a: &[i32], from: u16, token: Terminal, code: usize) -> Lo
 
 // All rows of the second, in order; the map holds the match of each of its states.
 pub fn clash(mode: Mode, a: &[i32], b: &[i32], map: &mut [u16; 1024]) -> Scan
-    requires { ⌜ Treed (now a) × Treed (now b) × Maps (λ s. 0) (now map) ⌝ }
+    requires { ⌜ Treed (now a) × Treed (now b) × Clear (now map) ⌝ }
     ensures { λ r. ⌜ Scanned mode (rows-in (now (a .entry))) (rows-in (now (b .entry))) r ⌝ }
 {
     let mut i = 0;

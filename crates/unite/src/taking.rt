@@ -10,7 +10,8 @@ ghost use Rattle.paper.specs.Rows.{find, rows-in};
 ghost use Rattle.rows.specs.Places.{uncoded};
 ghost use Rattle.grow.specs.Held.{held, row-held, Laid};
 ghost use Rattle.trees.proofs.Tree.{Tree};
-ghost use Rattle.unite.specs.Taking.{taking, Takes, Adds, Matches, Missed, Hit, United-rows, Maps, Treed};
+ghost use Rattle.ruled.specs.Into.{Clear};
+ghost use Rattle.unite.specs.Taking.{taking, Takes, Adds, Matches, Missed, Hit, United-rows, Treed};
 
 // What came of one row: how many rows there are and the state that it matches, CLASH, or a row too many.
 pub enum Took {
@@ -89,7 +90,7 @@ pub fn take_rows(
     b: &[i32],
     map: &mut [u16; 1024],
 ) -> Union
-    requires { ⌜ Laid (now buf) count × Tree (held (now buf) count) × Treed (now b) × Maps (λ s. 0) (now map) ⌝ }
+    requires { ⌜ Laid (now buf) count × Tree (held (now buf) count) × Treed (now b) × Clear (now map) ⌝ }
     ensures { λ r. ⌜ United-rows mode (held (now (buf .entry)) count) (rows-in (now (b .entry))) (now (buf .exit)) r ⌝ }
 {
     let mut n = count;

@@ -2,7 +2,14 @@ use mathlib.Core.Path.{_≡_, refl, sym, _∙_}
 use lib.ListN.{length}
 use Rattle.paper.specs.declared.Refusal.the-variants.{Length}
 use Rattle.rows.proofs.Signed.{same}
-use Rattle.shrink.proofs.Parts.{refusal-makes, answer-makes, refused-slice, refused-room, after-checks, slice-few}
+use Rattle.shrink.proofs.Parts.{
+  refusal-makes,
+  answer-makes,
+  refused-slice,
+  refused-room,
+  after-checks,
+  slice-few,
+}
 use borrow.Author.Needs.{needs}
 use Rattle.shrink.proofs.shrink.Statement.{statement}
 use Rattle.shrink.proofs.shrink.Tie as tie
@@ -21,7 +28,8 @@ returns : tie.Need-returns
 returns c =
     let s = c .before .before in
     let a = s .args in
-    refusal-makes _ Length (a .out .now) (refused-slice (a .mode) (a .prod0) (a .k) (a .rows .now) (length (a .out .now))
+    refusal-makes _ Length (a .out .now) (refused-slice (a .mode) (a .prod0) (a .k) (a .rows .now)
+    (length (a .out .now))
     (sym (c .before .row-slice .ensures) ∙ c .if1 .taken))
 
 -- src/lib.rt:103:9
@@ -30,7 +38,8 @@ returns-2 c =
     let i = c .before in
     let s = i .before .before in
     let a = s .args in
-    refusal-makes _ Length (a .out .now) (refused-room (a .mode) (a .prod0) (a .k) (a .rows .now) (length (a .out .now))
+    refusal-makes _ Length (a .out .now) (refused-room (a .mode) (a .prod0) (a .k) (a .rows .now)
+    (length (a .out .now))
     (sym (i .before .row-slice .ensures) ∙ i .if1 .left) (c .if2 .taken))
 
 -- src/lib.rt:105:9
@@ -72,7 +81,8 @@ returns-3 c =
     let s = i .before in
     let a = s .args in
     refusal-makes _ _ (a .out .now)
-    (after-checks (a .mode) (a .prod0) (a .k) (a .rows .now) (length (a .out .now)) (sym (i .row-slice .ensures) ∙ r .if1 .left)
+    (after-checks (a .mode) (a .prod0) (a .k) (a .rows .now) (length (a .out .now))
+    (sym (i .row-slice .ensures) ∙ r .if1 .left)
     (v .before .if2 .left) _
     (rw (c .before .verdict .given .1) at (rw (same (a .prod0) (s .fits .prod0)) at (v .ruled .ensures))))
 

@@ -33,7 +33,8 @@ write-requires c κs =
     let s = t .before in
     let a = s .args in (
       s .pre .0,
-      classes-named (a .mode) (a .p0) (a .rows .now) _ (fitting (s .pre .0 .0 .passed) (s .pre .0 .0 .few)) (k .classes .ensures),
+      classes-named (a .mode) (a .p0) (a .rows .now) _ (fitting (s .pre .0 .0 .passed) (s .pre .0 .0 .few))
+          (k .classes .ensures),
       t .top .ensures,
       s .pre .2,
       s .pre .3,

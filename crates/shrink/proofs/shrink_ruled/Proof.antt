@@ -45,7 +45,11 @@ shrink-indexed-requires c κs =
     let f = c .before .before .before in
     let m = f .before .before in
     let s = m .before .before .before in (
-      (record { passed = sound-passed (s .pre .0); few = s .pre .0 .few; starts = f .firsts .ensures }, m .mark .ensures),
+      (
+        record { passed = sound-passed (s .pre .0); few = s .pre .0 .few; starts = f .firsts .ensures },
+        m .mark
+            .ensures,
+      ),
       sound-shape (s .pre .0),
       sound-split (s .pre .0),
       s .pre .1,

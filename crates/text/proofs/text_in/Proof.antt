@@ -7,8 +7,18 @@ use Rattle.paper.specs.declared.Refusal.the-variants.{Length, Range, Order, Tex
 use Rattle.text.specs.Tally.{scanned}
 use Rattle.text.proofs.Small.{head-from-at}
 use Rattle.text.proofs.Filled.{stored-code}
-use Rattle.text.proofs.In.{refused, in-room, in-head, in-bad, in-many, in-range, in-order, in-table, ready,
-  code-small}
+use Rattle.text.proofs.In.{
+  refused,
+  in-room,
+  in-head,
+  in-bad,
+  in-many,
+  in-range,
+  in-order,
+  in-table,
+  ready,
+  code-small,
+}
 use Rattle.text.proofs.text_in.Statement.{statement}
 use Rattle.text.proofs.text_in.Tie as tie
 
@@ -124,8 +134,8 @@ production-of-requires c κs =
     let e = sym (r .scan .ensures) ∙ ap scanned (s .tally .given .1) in
     let q = c .before .before .before .before .before .before in
     let ranged =
-        sym (q .ranged .ensures)
-        ∙ not-false (q .ranged .result) (c .before .before .before .before .before .if3 .left) in
+    sym (q .ranged .ensures)
+    ∙ not-false (q .ranged .result) (c .before .before .before .before .before .if3 .left) in
     code-small t _ wide _ _ _ head _ e (q .before .if2 .left) ranged
 
 same-length : tie.Need-same-length
@@ -143,8 +153,8 @@ returns-7 c =
     let e = sym (r .scan .ensures) ∙ ap scanned (s .tally .given .1) in
     let q = c .before .before .before .before .before .before .before in
     let ranged =
-        sym (q .ranged .ensures)
-        ∙ not-false (q .ranged .result) (c .before .before .before .before .before .before .if3 .left) in
+    sym (q .ranged .ensures)
+    ∙ not-false (q .ranged .result) (c .before .before .before .before .before .before .if3 .left) in
     let few = q .before .if2 .left in
     let risen = not-false (s .tally .given .0 .0 .rising) (c .before .before .before .before .if4 .left) in
     let small = code-small t _ wide _ _ _ head _ e few ranged in

@@ -4,8 +4,20 @@ use mathlib.Core.Path.{sym, _∙_}
 use native.Mathlib.Omega.{arith}
 use borrow.Author.Needs.{needs}
 use Rattle.paper.specs.declared.Refusal.the-variants.{Length, Range, Order}
-use Rattle.text.proofs.Out.{range-by, code-by, refused, written, out-slice, out-room, out-range, out-order,
-  out-text, in-range, in-slice, text-parts}
+use Rattle.text.proofs.Out.{
+  range-by,
+  code-by,
+  refused,
+  written,
+  out-slice,
+  out-room,
+  out-range,
+  out-order,
+  out-text,
+  in-range,
+  in-slice,
+  text-parts,
+}
 use Rattle.text.proofs.Written.{puts-on, puts-as}
 use Rattle.text.proofs.text_out.Statement.{statement}
 use Rattle.text.proofs.text_out.Tie as tie
@@ -23,7 +35,7 @@ returns-2 c =
     let s = c .before .before in
     let a = s .before .before .args in
     refused Length (out-room (a .prod0) (a .k) (a .rows .now) _ (sym (s .row-slice .ensures) ∙ c .before .if1 .left)
-      (c .if2 .taken))
+    (c .if2 .taken))
 
 range-requires : tie.Need-range-requires
 range-requires c κs = search needs
@@ -55,7 +67,7 @@ returns-4 c =
     let a = g .args in
     let whole = sym (s .row-slice .ensures) ∙ r .before .before .if1 .left in
     let ranged =
-        range-by (a .prod0) (a .k) (a .rows .now) (g .fits .prod0) (r .range .ensures) (o .before .if3 .left) in
+    range-by (a .prod0) (a .k) (a .rows .now) (g .fits .prod0) (r .range .ensures) (o .before .if3 .left) in
     let fallen = sym (o .order .ensures) ∙ c .if4 .taken in
     refused Order (out-order (a .prod0) (a .k) (a .rows .now) _ whole (r .before .if2 .left) ranged fallen)
 
@@ -100,7 +112,7 @@ returns-5 c =
     let whole = sym (s .row-slice .ensures) ∙ r .before .before .if1 .left in
     let wide = r .before .if2 .left in
     let ranged =
-        range-by (a .prod0) (a .k) (a .rows .now) (g .fits .prod0) (r .range .ensures) (o .before .if3 .left) in
+    range-by (a .prod0) (a .k) (a .rows .now) (g .fits .prod0) (r .range .ensures) (o .before .if3 .left) in
     let risen = sym (o .order .ensures) ∙ p .before .before .before .if4 .left in
     let h = in-range (a .prod0) (a .k) (a .rows .now) ranged in
     let q = code-by (a .prod0) (g .fits .prod0) (p .before .coded .ensures) in

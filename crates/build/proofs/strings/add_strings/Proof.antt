@@ -11,7 +11,7 @@ use Rattle.build.proofs.strings.add_strings.Reads as reads
 use Rattle.build.proofs.strings.add_strings.Lts as lts
 use Rattle.build.proofs.strings.add_string.Reads as add-string-reads
 use Rattle.build.proofs.strings.first_code.Reads as first-code-reads
-use Rattle.build.proofs.strings.larger.Reads as larger-reads
+use Rattle.grow.proofs.larger.Reads as larger-reads
 use Rattle.build.proofs.strings.next_code.Reads as next-code-reads
 
 abbrev Inv-loop : tie.InvT-loop

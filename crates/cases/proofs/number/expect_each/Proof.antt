@@ -1,12 +1,9 @@
+-- `expect_each` is safe and ends: the numbers left fall. Assumes nothing.
 use borrow.Author.Needs.{needs}
-use mathlib.Core.Path.{_≡_}
-use Prim.Native.Nat.{_-_, _≤_}
+use Prim.Native.Nat.{_-_}
 use lib.ListN.{length}
 use Rattle.cases.proofs.number.expect_each.Statement.{statement}
 use Rattle.cases.proofs.number.expect_each.Tie as tie
-use Rattle.cases.proofs.number.expect_each.Reads as reads
-use Rattle.cases.proofs.number.expect_each.Lts as lts
-use Rattle.cases.proofs.number.expect.Reads as expect-reads
 
 abbrev Inv-loop : tie.InvT-loop
 Inv-loop bytes place ns next₀ i₀ next i = Unit {0}
@@ -14,35 +11,27 @@ Inv-loop bytes place ns next₀ i₀ next i = Unit {0}
 abbrev μ-loop : tie.MeasureT-loop
 μ-loop bytes place ns next₀ i₀ next i = length ns - i
 
--- src/number.rt:64:5
 loop-holds : tie.Need-loop-holds Inv-loop μ-loop
 loop-holds c = search needs
 
--- src/number.rt:65:51
 mul-expect : tie.Need-mul-expect Inv-loop μ-loop
 mul-expect c = search needs
 
--- src/number.rt:65:51
 shared-slice-read-expect : tie.Need-shared-slice-read-expect Inv-loop μ-loop
 shared-slice-read-expect c = search needs
 
--- src/number.rt:65:9
 expect-requires : tie.Need-expect-requires Inv-loop μ-loop
 expect-requires c κs = search needs
 
--- src/number.rt:66:9
 add-i : tie.Need-add-i Inv-loop μ-loop
 add-i c = search needs
 
--- src/number.rt:64:5
 loop-less : tie.Need-loop-less Inv-loop μ-loop
 loop-less c = search needs
 
--- src/number.rt:64:5
 loop-again : tie.Need-loop-again Inv-loop μ-loop
 loop-again c = search needs
 
--- src/number.rt:61:1
 returns : tie.Need-returns Inv-loop μ-loop
 returns c = search needs
 

@@ -1,20 +1,16 @@
+-- `front_tokens` is safe: a prefix no longer than its slice. Assumes nothing.
 use native.Mathlib.Omega.{arith}
 use Rattle.cases.proofs.Bounds.{prefix}
 use borrow.Author.Needs.{needs}
 use Rattle.cases.proofs.slice.front_tokens.Statement.{statement}
 use Rattle.cases.proofs.slice.front_tokens.Tie as tie
-use Rattle.cases.proofs.slice.front_tokens.Reads as reads
-use Rattle.cases.proofs.slice.front_tokens.Lts as lts
 
--- src/slice.rt:119:35
 slice-aggregate-result : tie.Need-slice-aggregate-result
 slice-aggregate-result c = prefix (c .before .before .args .n) (c .before .before .args .xs .now) (omega arith)
 
--- src/slice.rt:118:1
 returns : tie.Need-returns
 returns c = search needs
 
--- src/slice.rt:118:1
 returns-2 : tie.Need-returns-2
 returns-2 c = search needs
 

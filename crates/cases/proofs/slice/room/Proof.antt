@@ -1,16 +1,13 @@
+-- `room` meets its contract: it is at most the length, so the prefix is as long as it says. Assumes nothing.
 use native.Mathlib.Omega.{arith}
 use lib.ListN.{length}
 use Rattle.cases.proofs.Bounds.{prefix}
 use Rattle.cases.proofs.slice.room.Statement.{statement}
 use Rattle.cases.proofs.slice.room.Tie as tie
-use Rattle.cases.proofs.slice.room.Reads as reads
-use Rattle.cases.proofs.slice.room.Lts as lts
 
--- src/slice.rt:127:1
 returns : tie.Need-returns
 returns c = (omega arith, prefix (length (c .before .args .out .now)) (c .before .args .out .now) (omega arith))
 
--- src/slice.rt:127:1
 returns-2 : tie.Need-returns-2
 returns-2 c = (omega arith, prefix (c .before .args .n) (c .before .args .out .now) (omega arith))
 

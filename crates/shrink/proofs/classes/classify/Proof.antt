@@ -56,8 +56,10 @@ loop-again c =
     let a = s .args in
     let e : l .loop .s ≡ l .loop .s - 1 + 1 = omega arith in (
       omega arith,
-      pass-more (a .mode) (coded (a .p0) (a .rows .now)) (s .pre .2) (a .top) (s .pre .1) (l .loop .sig) (l .loop .class) _ _
-          (l .loop .s - 1) (rw e at (l .loop .inv .1)) (i .is-state .ensures .yes (c .before .before .before .if1 .taken))
+      pass-more (a .mode) (coded (a .p0) (a .rows .now)) (s .pre .2) (a .top) (s .pre .1) (l .loop .sig)
+          (l .loop .class) _ _
+          (l .loop .s - 1) (rw e at (l .loop .inv .1))
+          (i .is-state .ensures .yes (c .before .before .before .if1 .taken))
           (c .settle .ensures),
     )
 

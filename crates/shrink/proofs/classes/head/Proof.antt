@@ -10,7 +10,8 @@ use Rattle.shrink.proofs.classes.head.Lts as lts
 use Rattle.shrink.proofs.classes.meets.Reads as meets-reads
 
 abbrev Inv-loop : tie.InvT-loop
-Inv-loop mode p0 rows into first class sig top s g c₀ c = Missed (like mode (coded p0 rows) (mark-in class)) sig top s g c
+Inv-loop mode p0 rows into first class sig top s g c₀ c = Missed (like mode (coded p0 rows) (mark-in class)) sig top s
+    g c
 
 abbrev μ-loop : tie.MeasureT-loop
 μ-loop mode p0 rows into first class sig top s g c₀ c = c

@@ -30,7 +30,8 @@ returns-2 : tie.Need-returns-2
 returns-2 c =
     let x = c .before .before in
     let a = x .before .args in
-    meets-as _ (a .g) (like (a .mode) (coded (a .p0) (a .rows .now)) (mark-in (a .class .now)) (a .s) (a .c)) (c .like .result)
+    meets-as _ (a .g) (like (a .mode) (coded (a .p0) (a .rows .now)) (mark-in (a .class .now)) (a .s) (a .c))
+    (c .like .result)
     (sym (x .at .ensures .0) ∙ c .before .if1 .left) (c .like .ensures)
 
 pub meets-spec : {M : Type 1} → statement M

@@ -36,7 +36,12 @@ cast-sig : tie.Need-cast-sig
 cast-sig c =
     let g = c .before .before .before .before in
     let a = g .before .before .args in
-    omega (arith, g .sign .ensures, sign-small (a .mode) (coded (a .p0) (a .rows .now)) (mark-in (a .class .now)) (a .s))
+    omega (
+      arith,
+      g .sign .ensures,
+      sign-small (a .mode) (coded (a .p0) (a .rows .now)) (mark-in (a .class .now))
+          (a .s),
+    )
 
 -- src/classes.rt:114:9
 mul-sig : tie.Need-mul-sig

@@ -45,7 +45,8 @@ loop-again c =
     let l = c .before .before .before in
     let s = l .before in (
       omega arith,
-      above-less (s .args .rows .now) (s .args .into .now) (s .pre .0) (l .loop .s) (c .before .at .result) (omega arith)
+      above-less (s .args .rows .now) (s .args .into .now) (s .pre .0) (l .loop .s) (c .before .at .result)
+          (omega arith)
           (c .before .at .ensures .0) (c .if1 .left) (omega arith) (l .loop .inv .1),
     )
 

@@ -9,7 +9,16 @@ use Rattle.merging.proofs.Places.{place-low, place-zero}
 use Rattle.shrink.specs.Faces.{coded, mark-in}
 use Rattle.shrink.specs.Output.{Written}
 use Rattle.shrink.proofs.Counting.{heads-rise, head-state}
-use Rattle.shrink.proofs.Emitting.{rows-below, heads-start, heads-room, heads-next, heads-place, heads-skip, place-past, heads-end}
+use Rattle.shrink.proofs.Emitting.{
+  rows-below,
+  heads-start,
+  heads-room,
+  heads-next,
+  heads-place,
+  heads-skip,
+  place-past,
+  heads-end,
+}
 use Rattle.shrink.proofs.emit.emit.Statement.{statement}
 use Rattle.shrink.proofs.emit.emit.Tie as tie
 use Rattle.shrink.proofs.emit.emit.Reads as reads
@@ -28,8 +37,12 @@ abbrev μ-loop : tie.MeasureT-loop
 -- src/emit.rt:112:5
 loop-holds : tie.Need-loop-holds Inv-loop μ-loop
 loop-holds c =
-    let a = c .args in
-    (omega arith, sym (place-zero _), heads-start (a .rows .now) (a .class .now) (a .number .now) (c .pre .1) (a .out .now))
+    let a = c .args in (
+      omega arith,
+      sym (place-zero _),
+      heads-start (a .rows .now) (a .class .now) (a .number .now) (c .pre .1)
+          (a .out .now),
+    )
 
 -- src/emit.rt:114:9
 add-s : tie.Need-add-s Inv-loop μ-loop
@@ -60,7 +73,8 @@ emit-state-requires c κs =
     let b = i .is-head .ensures .yes (h .before .if1 .taken) in
     let w = s .pre .1 .small (l .loop .s) (head-state t (a .class .now) (l .loop .s) b) in
     let p = place-low (heads-of (mark-in (a .class .now)) t) (heads-rise t (a .class .now)) (l .loop .s) in
-    let r = heads-room (a .rows .now) (a .class .now) (a .number .now) (s .pre .1) (s .pre .2) (l .loop .s) (l .loop .m) b
+    let r = heads-room (a .rows .now) (a .class .now) (a .number .now) (s .pre .1) (s .pre .2) (l .loop .s)
+    (l .loop .m) b
     (l .loop .inv .1) (a .out .now) (l .loop .out) (l .loop .o) (l .loop .inv .2) (s .pre .0 .0 .few) in (
       s .pre .0 .0,
       s .pre .1,
@@ -101,8 +115,10 @@ loop-again c =
     let b = i .is-head .ensures .yes (h .before .if1 .taken) in (
       omega arith,
       heads-place ns class number (s .pre .1) (s .pre .2) u m b (l .loop .inv .1),
-      heads-next ns class number (s .pre .1) (s .pre .2) u m b (l .loop .inv .1) (a .out .now) (l .loop .out) _ (l .loop .o)
-          (c .before .emit-state .result) (h .at .result) (l .loop .inv .2) (h .at .ensures .0) (c .before .emit-state .ensures),
+      heads-next ns class number (s .pre .1) (s .pre .2) u m b (l .loop .inv .1) (a .out .now) (l .loop .out) _
+          (l .loop .o)
+          (c .before .emit-state .result) (h .at .result) (l .loop .inv .2) (h .at .ensures .0)
+          (c .before .emit-state .ensures),
     )
 
 -- src/emit.rt:112:5
@@ -122,7 +138,8 @@ loop-again-2 c =
     let off = i .is-head .ensures .no (c .if1 .left) in (
       omega arith,
       place-past ns class number (s .pre .1) (l .loop .s) off (l .loop .m) (l .loop .inv .1),
-      heads-skip ns class number (s .pre .1) (l .loop .s) off (a .out .now) (l .loop .out) (l .loop .o) (l .loop .inv .2),
+      heads-skip ns class number (s .pre .1) (l .loop .s) off (a .out .now) (l .loop .out) (l .loop .o)
+          (l .loop .inv .2),
     )
 
 -- src/emit.rt:94:1
@@ -135,7 +152,8 @@ returns c =
     let l = c .before in
     let s = l .before in
     let a = s .args in
-    heads-end (a .rows .now) (a .class .now) (a .number .now) (s .pre .1) (a .top) (s .pre .3) (a .out .now) (l .loop .out)
+    heads-end (a .rows .now) (a .class .now) (a .number .now) (s .pre .1) (a .top) (s .pre .3) (a .out .now)
+    (l .loop .out)
     (l .loop .o) (l .loop .s) (omega arith) (l .loop .inv .2)
 
 pub emit-spec : {M : Type 1} → statement M

@@ -34,7 +34,8 @@ at-requires c κs =
     omega (
       arith,
       c .target .ensures .0,
-      s .pre .1 .small (row-at ns (a .i) .to) (to-state (rows-in ns) (row-at ns (a .i)) (row-in ns (a .i) (s .pre .3))),
+      s .pre .1 .small (row-at ns (a .i) .to) (to-state (rows-in ns) (row-at ns (a .i))
+          (row-in ns (a .i) (s .pre .3))),
     )
 
 -- src/emit.rt:39:14

@@ -43,7 +43,8 @@ emit-row-requires c κs =
     let s = l .before .before in
     let a = s .args in
     let e = sym (t .before .leaves .ensures) ∙ t .if1 .taken in
-    let r = emit-room (a .rows .now) (a .class .now) (a .number .now) (a .h) (a .f) (a .out .now) (l .loop .out) (a .at)
+    let r = emit-room (a .rows .now) (a .class .now) (a .number .now) (a .h) (a .f) (a .out .now) (l .loop .out)
+    (a .at)
     (l .loop .o) (l .loop .i) (l .loop .inv) e (s .pre .2) in (
       s .pre .0 .passed,
       s .pre .1,
@@ -71,7 +72,8 @@ add-o c =
     let s = l .before .before in
     let a = s .args in
     let e = sym (t .before .leaves .ensures) ∙ t .if1 .taken in
-    let r = emit-room (a .rows .now) (a .class .now) (a .number .now) (a .h) (a .f) (a .out .now) (l .loop .out) (a .at)
+    let r = emit-room (a .rows .now) (a .class .now) (a .number .now) (a .h) (a .f) (a .out .now) (l .loop .out)
+    (a .at)
     (l .loop .o) (l .loop .i) (l .loop .inv) e (s .pre .2) in
     omega (arith, r, s .pre .5)
 

@@ -51,7 +51,8 @@ returns-2 c =
     let a = s .args in
     let t = coded 0 (a .rows .now) in
     let q = ap (λ (z : ℕ). getD (a .number .now) z 0) (h .at .ensures .0) in
-    subst (λ (z : ℕ). Tells (In (a .s) (heads-of (mark-in (a .class .now)) t)) (eqb z (a .m))) (sym (c .at2 .ensures .0 ∙ q))
+    subst (λ (z : ℕ). Tells (In (a .s) (heads-of (mark-in (a .class .now)) t)) (eqb z (a .m)))
+    (sym (c .at2 .ensures .0 ∙ q))
     (head-tells t (a .class .now) (a .number .now) (s .pre .2) (a .s) (a .m)
     (i .is-state .ensures .yes (not-false _ (h .before .if1 .left))) (s .pre .4))
 

@@ -62,7 +62,8 @@ loop-again c =
     let i = l .loop .i - 1 in
     let f = bound (l .before .pre .0) i (omega arith) in (
       omega arith,
-      first-row (l .before .args .rows .now) (l .loop .first) i (l .loop .i) (c .from-at .result) (omega arith) (omega arith)
+      first-row (l .before .args .rows .now) (l .loop .first) i (l .loop .i) (c .from-at .result) (omega arith)
+          (omega arith)
           (l .loop .inv .1) (c .from-at .ensures .is) (omega (arith, f .from, c .from-at .ensures)),
     )
 

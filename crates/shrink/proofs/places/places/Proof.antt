@@ -20,7 +20,11 @@ abbrev μ-loop : tie.MeasureT-loop
 
 -- src/places.rt:43:5
 loop-holds : tie.Need-loop-holds Inv-loop μ-loop
-loop-holds c = (omega arith, count-start (coded 0 (c .args .rows .now)) (c .args .class .now) (c .args .number .now) (c .pre .3))
+loop-holds c = (
+  omega arith,
+  count-start (coded 0 (c .args .rows .now)) (c .args .class .now) (c .args .number .now)
+      (c .pre .3),
+)
 
 -- src/places.rt:45:9
 add-s : tie.Need-add-s Inv-loop μ-loop
@@ -58,8 +62,10 @@ loop-again c =
     let s = l .before in
     let a = s .args in (
       omega arith,
-      count-more (coded 0 (a .rows .now)) (a .class .now) (s .pre .2) (a .top) (s .pre .1) (l .loop .number) _ (l .loop .m)
-          (c .place .result) (l .loop .s) (l .loop .inv .1) (i .is-state .ensures .yes (c .before .before .if1 .taken)) (c .place .ensures),
+      count-more (coded 0 (a .rows .now)) (a .class .now) (s .pre .2) (a .top) (s .pre .1) (l .loop .number) _
+          (l .loop .m)
+          (c .place .result) (l .loop .s) (l .loop .inv .1)
+          (i .is-state .ensures .yes (c .before .before .if1 .taken)) (c .place .ensures),
     )
 
 -- src/places.rt:43:5
@@ -73,7 +79,8 @@ loop-again-2 c =
     let l = i .before .before in
     let a = l .before .args in (
       omega arith,
-      count-skip (coded 0 (a .rows .now)) (a .class .now) (l .loop .number) (l .loop .m) (l .loop .s) (l .loop .inv .1)
+      count-skip (coded 0 (a .rows .now)) (a .class .now) (l .loop .number) (l .loop .m) (l .loop .s)
+          (l .loop .inv .1)
           (i .is-state .ensures .no (c .if1 .left)),
     )
 
@@ -83,7 +90,8 @@ returns c =
     let l = c .before in
     let s = l .before in
     let a = s .args in
-    count-end (coded 0 (a .rows .now)) (a .class .now) (a .top) (s .pre .1) (l .loop .number) (l .loop .m) (l .loop .s)
+    count-end (coded 0 (a .rows .now)) (a .class .now) (a .top) (s .pre .1) (l .loop .number) (l .loop .m)
+    (l .loop .s)
     (l .loop .inv .1) (omega arith)
 
 pub places-spec : {M : Type 1} → statement M

@@ -106,8 +106,10 @@ loop-again c =
     let e = sym (t .before .leaves .ensures) ∙ t .if1 .taken in (
       stand-next (l .loop .inv .0) (s .pre .0 .passed) e,
       omega arith,
-      l .loop .inv .2 ∙ hash-next (a .rows .now) (mark-in (a .class .now)) (a .s) (l .loop .i) (l .loop .r) (l .loop .inv .0) e
-          (c .before .terminal-at .result) (c .target .result) (c .before .terminal-at .ensures .is) (c .target .ensures .0),
+      l .loop .inv .2 ∙ hash-next (a .rows .now) (mark-in (a .class .now)) (a .s) (l .loop .i) (l .loop .r)
+          (l .loop .inv .0) e
+          (c .before .terminal-at .result) (c .target .result) (c .before .terminal-at .ensures .is)
+          (c .target .ensures .0),
     )
 
 -- src/same.rt:48:1
@@ -115,7 +117,8 @@ returns : tie.Need-returns Inv-loop μ-loop
 returns c =
     let l = c .before .before in
     let a = l .before .before .args in
-    sym (l .loop .inv .2 ∙ hash-end (a .rows .now) (mark-in (a .class .now)) (a .s) (l .loop .i) (l .loop .r) (l .loop .inv .0)
+    sym (l .loop .inv .2 ∙ hash-end (a .rows .now) (mark-in (a .class .now)) (a .s) (l .loop .i) (l .loop .r)
+    (l .loop .inv .0)
     (sym (c .before .leaves .ensures) ∙ c .if1 .left))
 
 pub hash-spec : {M : Type 1} → statement M

@@ -18,7 +18,8 @@ use Rattle.shrink.proofs.same.same_row.Reads as same-row-reads
 
 abbrev Inv-loop : tie.InvT-loop
 Inv-loop rows first class a b i₀ j₀ i j = Standing rows a i × Standing rows b j
-    × (rows-alike rows (mark-in class) a b ≡ same-rows (left rows (mark-in class) a i) (left rows (mark-in class) b j))
+    × (rows-alike rows (mark-in class) a b ≡ same-rows (left rows (mark-in class) a i)
+    (left rows (mark-in class) b j))
 
 abbrev μ-loop : tie.MeasureT-loop
 μ-loop rows first class a b i₀ j₀ i j = length rows / 4 - i
@@ -107,7 +108,8 @@ add-j c =
     let l = x .before in
     let s = l .before .before .before in
     let a = s .args in
-    let q = leaves-yes (a .rows .now) (a .b) (l .loop .j) (sym (y .leaves2 .ensures) ∙ not-false _ (z .before .if2 .left)) in
+    let q = leaves-yes (a .rows .now) (a .b) (l .loop .j)
+    (sym (y .leaves2 .ensures) ∙ not-false _ (z .before .if2 .left)) in
     omega (arith, q .0, s .pre .0 .few)
 
 -- src/same.rt:100:5
@@ -150,7 +152,8 @@ returns-3 c =
     let l = x .before in
     let a = l .before .before .before .args in
     alike-end (a .rows .now) (mark-in (a .class .now)) (a .a) (a .b) (l .loop .i) (l .loop .j)
-    (l .loop .inv .0) (l .loop .inv .1) (sym (x .leaves .ensures) ∙ c .before .if1 .left) (c .leaves3 .result) (c .leaves3 .ensures)
+    (l .loop .inv .0) (l .loop .inv .1) (sym (x .leaves .ensures) ∙ c .before .if1 .left) (c .leaves3 .result)
+    (c .leaves3 .ensures)
     ∙ sym (l .loop .inv .2)
 
 pub same-rows-spec : {M : Type 1} → statement M

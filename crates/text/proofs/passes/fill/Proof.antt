@@ -50,7 +50,7 @@ returns c =
     let a = b .before .before .args in
     let r = c .before .before in
     no-bad (a .text .now) (b .loop .place) _ (omega arith) (b .loop .inv .3)
-      (sym (r .row-at .ensures) ∙ c .enum-told .given .1)
+    (sym (r .row-at .ensures) ∙ c .enum-told .given .1)
 
 put-numbers-requires : tie.Need-put-numbers-requires Inv-loop μ-loop
 put-numbers-requires c κs =
@@ -62,9 +62,14 @@ put-numbers-requires c κs =
     let ready = b .loop .inv .3 in
     let e = sym (r .row-at .ensures) ∙ v .from .given .1 in
     let room = row-room t p _ (omega arith) ready _ _ _ _ _ e in
-    let f : Fit _ = fit _ (row-fit t p _ (omega arith) ready _ _ _ _ _ e) in
-    (omega arith, omega (arith, f .from), f .terminal, omega (arith, f .to), omega
-      (arith, f .production, code-back (v .from .given .0 .1 .1 .1 .0)))
+    let f : Fit _ = fit _ (row-fit t p _ (omega arith) ready _ _ _ _ _ e) in (
+      omega arith,
+      omega (arith, f .from),
+      f .terminal,
+      omega (arith, f .to),
+      omega
+          (arith, f .production, code-back (v .from .given .0 .1 .1 .1 .0)),
+    )
 
 add-i : tie.Need-add-i Inv-loop μ-loop
 add-i c =
@@ -99,9 +104,9 @@ loop-again c =
     let room = row-room t p _ (omega arith) ready _ _ _ _ _ e in
     let q = w .put-numbers .ensures in
     let n : length (w .put-numbers .last .0) ≡ length (b .loop .out) =
-        ap length q ∙ put-length (b .loop .out) (b .loop .i) _ (omega arith) in
+    ap length q ∙ put-length (b .loop .out) (b .loop .i) _ (omega arith) in
     let m : length (b .loop .out) - b .loop .i - 4 ≡ length (w .put-numbers .last .0) - (b .loop .i + 4) =
-        omega arith in (
+    omega arith in (
       h .inside,
       omega arith,
       omega arith,

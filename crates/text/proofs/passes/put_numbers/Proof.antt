@@ -68,7 +68,7 @@ returns c =
     let e₄ = stored-code (a .code) _ (g .pre .4) (c .production-of .ensures) in
     rw (e₁, e₂, e₃, e₄)
     (put-four (a .out .now) (a .at) (pos (a .from)) (pos (a .on)) (pos (a .to)) (signed (uncoded (a .code)))
-      (g .pre .0))
+    (g .pre .0))
 
 pub put-numbers-spec : {M : Type 1} → statement M
 put-numbers-spec =

@@ -22,14 +22,14 @@ returns-3 : tie.Need-returns-3
 returns-3 c =
     let a = c .before .before .before .args in
     to-out (row (a .from) (a .on) (a .to) (a .code)) (c .before .before .if1 .left) (c .before .if2 .left)
-      (c .if3 .taken)
+    (c .if3 .taken)
 
 returns-4 : tie.Need-returns-4
 returns-4 c =
     let a = c .before .before .before .args in
     ap (λ (n : ℕ). leb n 65536) (code-back (a .code))
     ∙ production-left (row (a .from) (a .on) (a .to) (a .code)) (c .before .before .if1 .left) (c .before .if2 .left)
-      (c .if3 .left)
+    (c .if3 .left)
 
 pub row-fits-spec : {M : Type 1} → statement M
 row-fits-spec = tie.close (tie.spec returns returns-2 returns-3 returns-4)

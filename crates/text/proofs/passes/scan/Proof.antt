@@ -68,12 +68,12 @@ loop-again c =
     let e = sym (r .row-at .ensures) ∙ v .from .given .1 in
     let h = row-from-at (a .text .now) (b .loop .place) _ _ _ _ _ e in
     let q : c .tallied .result .rows ≡ b .loop .tally .rows + 1 =
-        ap (λ (s : Tally). s .rows) (c .tallied .ensures) ∙ tallied-rows (b .loop .tally) _ in (
+    ap (λ (s : Tally). s .rows) (c .tallied .ensures) ∙ tallied-rows (b .loop .tally) _ in (
       h .inside,
       omega (arith, h .later),
       b .loop .inv .2
-      ∙ tally-row (a .text .now) (b .loop .place) _ _ _ _ _ (omega arith) e (b .loop .tally)
-      ∙ rw (← c .tallied .ensures),
+          ∙ tally-row (a .text .now) (b .loop .place) _ _ _ _ _ (omega arith) e (b .loop .tally)
+          ∙ rw (← c .tallied .ensures),
     )
 
 returns-2 : tie.Need-returns-2 Inv-loop μ-loop

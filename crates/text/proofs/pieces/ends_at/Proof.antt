@@ -14,7 +14,7 @@ returns c =
     let w = c .before in
     let a = w .before .before .before .args in
     ends-not (a .line .now) (a .at) (a .word .now)
-      (sym (w .word-at .ensures) ∙ not-true (w .word-at .result) (c .if1 .taken))
+    (sym (w .word-at .ensures) ∙ not-true (w .word-at .result) (c .if1 .taken))
 
 add-result : tie.Need-add-result
 add-result c = search needs
@@ -24,7 +24,7 @@ returns-2 c =
     let w = c .before in
     let a = w .before .before .before .args in
     ends-so (a .line .now) (a .at) (a .word .now)
-      (sym (w .word-at .ensures) ∙ not-false (w .word-at .result) (c .if1 .left))
+    (sym (w .word-at .ensures) ∙ not-false (w .word-at .result) (c .if1 .left))
 
 pub ends-at-spec : {M : Type 1} → statement M
 ends-at-spec = tie.close (tie.spec word-at-requires returns add-result returns-2)

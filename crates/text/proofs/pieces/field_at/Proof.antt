@@ -15,7 +15,7 @@ returns c =
     let w = c .before in
     let a = w .before .before .before .args in
     field-not (a .line .now) (a .at) (a .word .now)
-      (sym (w .word-at .ensures) ∙ not-true (w .word-at .result) (c .if1 .taken))
+    (sym (w .word-at .ensures) ∙ not-true (w .word-at .result) (c .if1 .taken))
 
 add-number-at : tie.Need-add-number-at
 add-number-at c = search needs

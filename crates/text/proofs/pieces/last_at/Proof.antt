@@ -15,7 +15,7 @@ returns c =
     let w = c .before in
     let a = w .before .before .before .args in
     last-not (a .line .now) (a .at) (a .word .now)
-      (sym (w .word-at .ensures) ∙ not-true (w .word-at .result) (c .if1 .taken))
+    (sym (w .word-at .ensures) ∙ not-true (w .word-at .result) (c .if1 .taken))
 
 add-production-at : tie.Need-add-production-at
 add-production-at c = search needs

@@ -27,7 +27,7 @@ returns-3 : tie.Need-returns-3
 returns-3 c =
     let d = c .before .before .before .before .before in
     number-zero _ _ _ (d .digit-count .ensures .0) (omega arith) (omega arith) (c .before .before .if3 .taken)
-      (c .if4 .taken)
+    (c .if4 .taken)
 
 value-requires : tie.Need-value-requires
 value-requires c κs = search needs
@@ -42,7 +42,7 @@ returns-4 c =
     let e = d .digit-count .ensures .0 in
     ⊎-elim
     (λ w. number-more _ _ _ e (c .value .result) (c .value .ensures) (omega arith) (omega arith) (w .0 .taken)
-      (w .2 .left))
+    (w .2 .left))
     (λ w. number-one _ _ _ e (c .value .result) (c .value .ensures) (w .left))
     (m .if3 .came)
 

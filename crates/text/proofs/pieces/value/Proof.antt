@@ -73,7 +73,7 @@ loop-again c =
     let s : a .at + (b .loop .i + 1) ≡ suc k = omega arith in
     let e = b .loop .inv .1 ∙ n in
     let v : value (suc m) (b .loop .n) (drop k (a .line .now)) ≡ value (a .count) 0 (drop (a .at) (a .line .now)) =
-        rw n at (b .loop .inv .2) in (
+    rw n at (b .loop .inv .2) in (
       omega arith,
       rw s (digits-left (a .line .now) k (omega arith) m e),
       rw s (sym (value-next (a .line .now) k (omega arith) m e (b .loop .n)) ∙ v),

@@ -30,7 +30,7 @@ returns c =
     let a = b .before .args in
     starts-not (a .word .now) (drop (a .at) (a .line .now))
     (b .loop .inv .2 ∙ word-short (a .word .now) (a .line .now) (b .loop .i) (a .at + b .loop .i) (omega arith)
-      (c .if1 .taken))
+    (c .if1 .taken))
 
 shared-slice-read-if2 : tie.Need-shared-slice-read-if2 Inv-loop μ-loop
 shared-slice-read-if2 c = omega arith
@@ -47,7 +47,7 @@ returns-2 c =
     let a = b .before .args in
     starts-not (a .word .now) (drop (a .at) (a .line .now))
     (b .loop .inv .2 ∙ word-differs (a .word .now) (a .line .now) (b .loop .i) (a .at + b .loop .i) (omega arith)
-      (omega arith) (c .if2 .taken))
+    (omega arith) (c .if2 .taken))
 
 add-i : tie.Need-add-i Inv-loop μ-loop
 add-i c = omega arith
@@ -63,9 +63,9 @@ loop-again c =
       omega arith,
       omega arith,
       b .loop .inv .2
-      ∙ word-next (a .word .now) (a .line .now) (b .loop .i) (a .at + b .loop .i) (omega arith) (omega arith)
-        (c .if2 .left)
-      ∙ rw (s, add-one (b .loop .i)),
+          ∙ word-next (a .word .now) (a .line .now) (b .loop .i) (a .at + b .loop .i) (omega arith) (omega arith)
+          (c .if2 .left)
+          ∙ rw (s, add-one (b .loop .i)),
     )
 
 returns-3 : tie.Need-returns-3 Inv-loop μ-loop

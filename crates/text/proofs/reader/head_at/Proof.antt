@@ -1,5 +1,9 @@
--- `text::reader::head_at` meets its contract: a walk of its MIR, by hand. A `Reader` that one call returns is held in a local and passed to the next. All that the proof knows of `placed` and of `head` is that each meets its contract.
--- The machine value that `placed` returns is stored and passed on as it is. In a local of a body MIR erases the lifetime of the struct's type, so the value is shown to have the type at `erased`: what the struct owns does not say the lifetime's name.
+-- `text::reader::head_at` meets its contract: a walk of its MIR, by hand. A `Reader` that one call returns is held
+-- in a local and passed to the next. All that the proof knows of `placed` and of `head` is that each meets its
+-- contract.
+-- The machine value that `placed` returns is stored and passed on as it is. In a local of a body MIR erases the
+-- lifetime of the struct's type, so the value is shown to have the type at `erased`: what the struct owns does not
+-- say the lifetime's name.
 -- Assumes nothing.
 use mathlib.Core.Path.{_≡_, refl, ap, _∙_}
 use Prim.Native.Nat.{ℕ, _<_, _^_}
@@ -17,8 +21,52 @@ use ghost.Atoms.{Atoms, sem}
 use contract.Lifetimes.{Lfts}
 use contract.Monad.{Fun, fact}
 use contract.Running.{givenOf, tables, tablesOf}
-use types.Kit.{Given, ‵, raw, _⊛_, ⋆, some, later, _$_, _∵_, !, qed, by, move, use1, use2, split, join, pick, fsplit, fjoin, suffices, frame, await, done}
-use types.Run.{look, init, forget, stop, from, load, and-then, no-more, land, returns, enter, alloc1, alloc0, params1, pass1, pass0, free1, free0}
+use types.Kit.{
+  Given,
+  ‵,
+  raw,
+  _⊛_,
+  ⋆,
+  some,
+  later,
+  _$_,
+  _∵_,
+  !,
+  qed,
+  by,
+  move,
+  use1,
+  use2,
+  split,
+  join,
+  pick,
+  fsplit,
+  fjoin,
+  suffices,
+  frame,
+  await,
+  done,
+}
+use types.Run.{
+  look,
+  init,
+  forget,
+  stop,
+  from,
+  load,
+  and-then,
+  no-more,
+  land,
+  returns,
+  enter,
+  alloc1,
+  alloc0,
+  params1,
+  pass1,
+  pass0,
+  free1,
+  free0,
+}
 use sound.WpLaws.{FmC, fmOf, WpFn-mono}
 use denote.RattleType.{RattleType, owns}
 use denote.Laws.{Is, shows}
@@ -35,7 +83,19 @@ use denote.Triple.Call.{calls-at}
 use denote.Triple.Entry.{Vals, onEntry}
 use denote.Triple.Spec.{Meets, tripleOf}
 use denote.Triple.Table.{entered, cited}
-use denote.Triple.Walked.{says, Stays, stay-none, stay-none-slice, walkOf, goes-none, goes-none-slice, Walks, ends-at, walked, walk-meets}
+use denote.Triple.Walked.{
+  says,
+  Stays,
+  stay-none,
+  stay-none-slice,
+  walkOf,
+  goes-none,
+  goes-none-slice,
+  Walks,
+  ends-at,
+  walked,
+  walk-meets,
+}
 use denote.Exit.{yes}
 use denote.Triple.Clauses.{ensured, lasts}
 use Rattle.text.specs.Reading.{head-from}
@@ -73,7 +133,8 @@ module _ {M : Type 1} (𝓤 : URA M) (H : Heap 𝓤) (A : Atoms 𝓤) (mem : Mem
   abbrev Head : Contract 𝓤
   Head = tripleOf 𝓤 H A head.signature (head.spec 𝓤 H A mem run)
 
-module _ {M : Type 1} (𝓤 : URA M) (H : Heap 𝓤) (A : Atoms 𝓤) (W : Given 𝓤 H A) (mem : Memory → SProp 𝓤) (run : Routine → Fun 𝓤) (κ : Lft) (q : Share) (s : RefT (List ℕ)) (n : ℕ) (ok : n < 2 ^ 64) where
+module _ {M : Type 1} (𝓤 : URA M) (H : Heap 𝓤) (A : Atoms 𝓤) (W : Given 𝓤 H A) (mem : Memory → SProp 𝓤)
+    (run : Routine → Fun 𝓤) (κ : Lft) (q : Share) (s : RefT (List ℕ)) (n : ℕ) (ok : n < 2 ^ 64) where
   -- the machine value that s has
   abbrev v : Val
   v = sliceVal (s .ptr) (length (s .now))
@@ -90,7 +151,9 @@ module _ {M : Type 1} (𝓤 : URA M) (H : Heap 𝓤) (A : Atoms 𝓤) (W : Given
   αᵉ = record { mir = erased; lft = κ }
 
   abbrev Post : Val → SProp 𝓤
-  Post = walkOf 𝓤 H A head-at.ended stayed (head-at.clauses 𝓤 H A mem run) .post (((κ, tt), (q, tt), tt, (s, (n, tt)), passed), tt)
+  Post =
+      walkOf 𝓤 H A head-at.ended stayed (head-at.clauses 𝓤 H A mem run) .post
+      (((κ, tt), (q, tt), tt, (s, (n, tt)), passed), tt)
 
   abbrev Own : Fml
   Own = ShrSlice (named 0) κ u8 .own s (v ∷ [])
@@ -99,63 +162,114 @@ module _ {M : Type 1} (𝓤 : URA M) (H : Heap 𝓤) (A : Atoms 𝓤) (W : Given
   abbrev to-placed : Placed 𝓤 H A mem run .Ghost
   to-placed = (((κ, tt), (q, tt), tt, (s, (n, tt)), passed), tt)
 
-  goes-placed : ent 𝓤 (onEntry 𝓤 H A head-at.signature (κ, tt) (q, tt) (s, (n, tt)) passed) (sep 𝓤 (Placed 𝓤 H A mem run .pre to-placed) (sem 𝓤 H A Own))
+  goes-placed : ent 𝓤 (onEntry 𝓤 H A head-at.signature (κ, tt) (q, tt) (s, (n, tt)) passed)
+      (sep 𝓤 (Placed 𝓤 H A mem run .pre to-placed) (sem 𝓤 H A Own))
   goes-placed =
       qed W ((‵ (flft κ q) ⊛ ‵ ftrue) ∷ ‵ (owns (ShrSlice (named 0) κ u8 ∷ usize ∷ []) (s, (n, tt)) passed) ∷ []) ∵
-      move ! (1 ∷ []) $ fsplit ! $ use1 W (‵ Own ⊛ ‵ Own) (shr-slice-copy 𝓤 H A W (named 0) κ u8 .twice s (v ∷ [])) $ split ! $
-      move ! (0 ∷ 2 ∷ []) $ fjoin ! $ move ! (2 ∷ 0 ∷ []) $ use2 W (raw (Placed 𝓤 H A mem run .pre to-placed)) (qed W ((‵ (flft κ q) ⊛ ‵ ftrue) ∷ ‵ (owns (ShrSlice (named 0) κ u8 ∷ usize ∷ []) (s, (n, tt)) passed) ∷ []) ∵ join ! $ frame ! $ done !) $ frame ! $ done !
+      move ! (1 ∷ []) $ fsplit ! $ use1 W (‵ Own ⊛ ‵ Own) (shr-slice-copy 𝓤 H A W (named 0) κ u8 .twice s (v ∷ [])) $
+      split ! $
+      move ! (0 ∷ 2 ∷ []) $ fjoin ! $ move ! (2 ∷ 0 ∷ []) $
+      use2 W (raw (Placed 𝓤 H A mem run .pre to-placed))
+      (qed W ((‵ (flft κ q) ⊛ ‵ ftrue) ∷ ‵ (owns (ShrSlice (named 0) κ u8 ∷ usize ∷ []) (s, (n, tt)) passed) ∷
+      []) ∵ join ! $ frame ! $ done !) $ frame ! $ done !
 
-  placed-said : (r : Reader) → ent 𝓤 (ensured 𝓤 H A placed.ended (placed.clauses 𝓤 H A mem run) (κ, tt) (s, (n, tt)) tt r) (fact 𝓤 ((r .text ≡ s) × (r .at ≡ n)))
-  placed-said r = exE 𝓤 _ (λ ws. snd∗ 𝓤 (sem 𝓤 H A (lasts placed.ended (κ, tt) (s, (n, tt)) ws)) (fact 𝓤 ((r .text ≡ s) × (r .at ≡ n))))
+  placed-said : (r : Reader) →
+      ent 𝓤 (ensured 𝓤 H A placed.ended (placed.clauses 𝓤 H A mem run) (κ, tt) (s, (n, tt)) tt r)
+      (fact 𝓤 ((r .text ≡ s) × (r .at ≡ n)))
+  placed-said r =
+      exE 𝓤 _ (λ ws. snd∗ 𝓤 (sem 𝓤 H A (lasts placed.ended (κ, tt) (s, (n, tt)) ws))
+      (fact 𝓤 ((r .text ≡ s) × (r .at ≡ n))))
 
   -- the call of `head`, at the struct r with the machine value u
   abbrev to-head : Reader → Val → Head 𝓤 H A mem run .Ghost
   to-head r u = (((κ, tt), (q, tt), tt, (r, tt), (u ∷ [], tt)), tt)
 
-  goes-head : (r : Reader) (u : Val) → ent 𝓤 (⋆ 𝓤 H A (‵ (B (κ, tt) .own r (u ∷ [])) ∷ (‵ (flft κ q) ⊛ ‵ ftrue) ∷ [])) (Head 𝓤 H A mem run .pre (to-head r u))
-  goes-head r u = qed W (‵ (B (κ, tt) .own r (u ∷ [])) ∷ (‵ (flft κ q) ⊛ ‵ ftrue) ∷ []) ∵ nothing ! $ move ! (1 ∷ 0 ∷ []) $ fjoin ! $ move ! (1 ∷ 0 ∷ []) $ join ! $ frame ! $ done !
+  goes-head : (r : Reader) (u : Val) →
+      ent 𝓤 (⋆ 𝓤 H A (‵ (B (κ, tt) .own r (u ∷ [])) ∷ (‵ (flft κ q) ⊛ ‵ ftrue) ∷ []))
+      (Head 𝓤 H A mem run .pre (to-head r u))
+  goes-head r u =
+      qed W (‵ (B (κ, tt) .own r (u ∷ [])) ∷ (‵ (flft κ q) ⊛ ‵ ftrue) ∷ []) ∵ nothing ! $ move ! (1 ∷ 0 ∷ []) $
+      fjoin ! $ move ! (1 ∷ 0 ∷ []) $ join ! $ frame ! $ done !
 
-  head-said : (r : Reader) (t : HeadLine) → ent 𝓤 (ensured 𝓤 H A head.ended (head.clauses 𝓤 H A mem run) (κ, tt) (r, tt) tt t) (fact 𝓤 (t ≡ head-from (now (r .text)) (r .at)))
-  head-said r t = exE 𝓤 _ (λ ws. snd∗ 𝓤 (sem 𝓤 H A (lasts head.ended (κ, tt) (r, tt) ws)) (fact 𝓤 (t ≡ head-from (now (r .text)) (r .at))))
+  head-said : (r : Reader) (t : HeadLine) →
+      ent 𝓤 (ensured 𝓤 H A head.ended (head.clauses 𝓤 H A mem run) (κ, tt) (r, tt) tt t)
+      (fact 𝓤 (t ≡ head-from (now (r .text)) (r .at)))
+  head-said r t =
+      exE 𝓤 _ (λ ws. snd∗ 𝓤 (sem 𝓤 H A (lasts head.ended (κ, tt) (r, tt) ws))
+      (fact 𝓤 (t ≡ head-from (now (r .text)) (r .at))))
 
-  exits : (t : HeadLine) (u : Val) → t ≡ found → ent 𝓤 (⋆ 𝓤 H A (‵ (S.the-row .own t (u ∷ [])) ∷ (‵ (flft κ q) ⊛ ‵ ftrue) ∷ ‵ Own ∷ [])) (Post u)
+  exits : (t : HeadLine) (u : Val) → t ≡ found →
+      ent 𝓤 (⋆ 𝓤 H A (‵ (S.the-row .own t (u ∷ [])) ∷ (‵ (flft κ q) ⊛ ‵ ftrue) ∷ ‵ Own ∷ [])) (Post u)
   exits t u e =
       qed W (‵ (S.the-row .own t (u ∷ [])) ∷ (‵ (flft κ q) ⊛ ‵ ftrue) ∷ ‵ Own ∷ []) ∵
-      suffices ! _ (ends-at 𝓤 H A head-at.ended stayed (head-at.clauses 𝓤 H A mem run) W (((κ, tt), (q, tt), tt, (s, (n, tt)), passed), tt) u t (tt, (tt, tt)) (tt, (tt, tt))) $ says ! e $
-      move ! (1 ∷ []) $ frame ! $ nothing ! $ owned ! usize (Is usize) (uint-makes 𝓤 H A W w64) n _ (refl, ok) $ fjoin ! $ move ! (2 ∷ 0 ∷ []) $ fjoin ! $ frame ! $ done !
+      suffices ! _ (ends-at 𝓤 H A head-at.ended stayed (head-at.clauses 𝓤 H A mem run) W
+      (((κ, tt), (q, tt), tt, (s, (n, tt)), passed), tt) u t (tt, (tt, tt)) (tt, (tt, tt))) $ says ! e $
+      move ! (1 ∷ []) $ frame ! $ nothing ! $ owned ! usize (Is usize) (uint-makes 𝓤 H A W w64) n _ (refl, ok) $
+      fjoin ! $ move ! (2 ∷ 0 ∷ []) $ fjoin ! $ frame ! $ done !
 
-  module _ (C : Calls 𝓤 H) (Λ : Loops 𝓤 H) (fm : FmC 𝓤 H (W .laws) C) (known-placed : Triple 𝓤 (C #text·reader·placed) (Placed 𝓤 H A mem run)) (known-head : Triple 𝓤 (C #text·reader·head) (Head 𝓤 H A mem run)) where
-    walk : Is (ShrSlice (named 0) κ u8) s (v ∷ []) → ent 𝓤 (onEntry 𝓤 H A head-at.signature (κ, tt) (q, tt) (s, (n, tt)) passed) (WpFn 𝓤 H C Λ code.function (v ∷ vint w64 n ∷ []) Post)
+  module _ (C : Calls 𝓤 H) (Λ : Loops 𝓤 H) (fm : FmC 𝓤 H (W .laws) C)
+      (known-placed : Triple 𝓤 (C #text·reader·placed) (Placed 𝓤 H A mem run))
+      (known-head : Triple 𝓤 (C #text·reader·head) (Head 𝓤 H A mem run)) where
+    walk : Is (ShrSlice (named 0) κ u8) s (v ∷ []) →
+        ent 𝓤 (onEntry 𝓤 H A head-at.signature (κ, tt) (q, tt) (s, (n, tt)) passed)
+        (WpFn 𝓤 H C Λ code.function (v ∷ vint w64 n ∷ []) Post)
     walk p =
-        qed W (raw (onEntry 𝓤 H A head-at.signature (κ, tt) (q, tt) (s, (n, tt)) passed) ∷ []) ∵ enter ! C Λ code.function (v ∷ vint w64 n ∷ []) _ $
-        alloc1 ! (λ l₀. alloc1 ! (λ l₁. alloc1 ! (λ l₂. alloc1 ! (λ l₃. alloc0 ! $ params1 ! $ pass1 ! (init ! 4 refl (shr-slice-lawful 𝓤 H A W (named 0) κ u8 .typed s (v ∷ []) p .0)) $ pass1 ! (init ! 2 refl (tt, record { fits = ok })) $ pass0 ! $
+        qed W (raw (onEntry 𝓤 H A head-at.signature (κ, tt) (q, tt) (s, (n, tt)) passed) ∷
+        []) ∵ enter ! C Λ code.function (v ∷ vint w64 n ∷ []) _ $
+        alloc1 ! (λ l₀. alloc1 ! (λ l₁. alloc1 ! (λ l₂. alloc1 ! (λ l₃. alloc0 ! $ params1 ! $
+        pass1 ! (init ! 4 refl (shr-slice-lawful 𝓤 H A W (named 0) κ u8 .typed s (v ∷ []) p .0)) $
+        pass1 ! (init ! 2 refl (tt, record { fits = ok })) $ pass0 ! $
         move ! (8 ∷ []) $ use1 W (raw (Placed 𝓤 H A mem run .pre to-placed) ⊛ ‵ Own) goes-placed $ split ! $
-        calls-at ! fm (Placed 𝓤 H A mem run) known-placed to-placed (and-then ! (load ! (from ! (stop !)) (look ! 6 refl)) (and-then ! (load ! (from ! (stop !)) (look ! 4 refl)) (no-more !))) (λ u.
-        use1 W (later (some (λ (r : Reader). ((‵ (flft κ q) ⊛ ‵ ftrue) ⊛ ‵ (B (κ, tt) .own r (u ∷ []))) ⊛ raw (ensured 𝓤 H A placed.ended (placed.clauses 𝓤 H A mem run) (κ, tt) (s, (n, tt)) tt r)))) (id⊢ 𝓤 _) $ await ! tt $ pick ! (λ r.
-        split ! $ move ! (1 ∷ []) $ use1 W (raw (fact 𝓤 ((r .text ≡ s) × (r .at ≡ n)))) (placed-said r) $ heard ! ((r .text ≡ s) × (r .at ≡ n)) (λ e. split ! $ move ! (1 ∷ []) $
+        calls-at ! fm (Placed 𝓤 H A mem run) known-placed to-placed
+        (and-then ! (load ! (from ! (stop !)) (look ! 6 refl))
+        (and-then ! (load ! (from ! (stop !)) (look ! 4 refl)) (no-more !))) (λ u.
+        use1 W (later (some (λ (r : Reader). ((‵ (flft κ q) ⊛ ‵ ftrue) ⊛ ‵ (B (κ, tt) .own r (u ∷ []))) ⊛ raw
+        (ensured 𝓤 H A placed.ended (placed.clauses 𝓤 H A mem run) (κ, tt) (s, (n, tt)) tt r)))) (id⊢ 𝓤 _) $
+        await ! tt $ pick ! (λ r.
+        split ! $ move ! (1 ∷ []) $ use1 W (raw (fact 𝓤 ((r .text ≡ s) × (r .at ≡ n)))) (placed-said r) $
+        heard ! ((r .text ≡ s) × (r .at ≡ n)) (λ e. split ! $ move ! (1 ∷ []) $
         -- [what the struct owns; the token; what s owns; room for _3; …; _2; …; _1; …; room for _0; …]
         peeks ! (B (κ, tt)) (Is (B (κ, tt))) (shows 𝓤 H A (B (κ, tt))) r (u ∷ []) (λ is.
         land ! (from ! (stop !)) (init ! 3 refl (LL.lawful (T.the-type αᵉ) (T′.the-laws αᵉ) 𝓤 H A W .typed r _ is .0)) $
         use2 W (raw (Head 𝓤 H A mem run .pre (to-head r u))) (goes-head r u) $
-        calls-at ! fm (Head 𝓤 H A mem run) known-head (to-head r u) (and-then ! (load ! (from ! (stop !)) (look ! 2 refl)) (no-more !)) (λ u′.
-        use1 W (later (some (λ (t : HeadLine). ((‵ (flft κ q) ⊛ ‵ ftrue) ⊛ ‵ (S.the-row .own t (u′ ∷ []))) ⊛ raw (ensured 𝓤 H A head.ended (head.clauses 𝓤 H A mem run) (κ, tt) (r, tt) tt t)))) (id⊢ 𝓤 _) $ await ! tt $ pick ! (λ t.
-        split ! $ move ! (1 ∷ []) $ use1 W (raw (fact 𝓤 (t ≡ head-from (now (r .text)) (r .at)))) (head-said r t) $ heard ! (t ≡ head-from (now (r .text)) (r .at)) (λ e′. split ! $ move ! (1 ∷ []) $
+        calls-at ! fm (Head 𝓤 H A mem run) known-head (to-head r u)
+        (and-then ! (load ! (from ! (stop !)) (look ! 2 refl)) (no-more !)) (λ u′.
+        use1 W (later (some (λ (t : HeadLine). ((‵ (flft κ q) ⊛ ‵ ftrue) ⊛ ‵ (S.the-row .own t (u′ ∷ []))) ⊛ raw
+        (ensured 𝓤 H A head.ended (head.clauses 𝓤 H A mem run) (κ, tt) (r, tt) tt t)))) (id⊢ 𝓤 _) $ await ! tt $
+        pick ! (λ t.
+        split ! $ move ! (1 ∷ []) $ use1 W (raw (fact 𝓤 (t ≡ head-from (now (r .text)) (r .at)))) (head-said r t) $
+        heard ! (t ≡ head-from (now (r .text)) (r .at)) (λ e′. split ! $ move ! (1 ∷ []) $
         -- [the result; the token; what s owns; _3; …; _2; …; _1; …; room for _0; …]
         peeks ! S.the-row (Is S.the-row) (shows 𝓤 H A S.the-row) t (u′ ∷ []) (λ is′.
         land ! (from ! (stop !)) (init ! 9 refl (EL.lawful S.the-type S′.the-laws 𝓤 H A W tt .typed t _ is′ .0)) $
-        returns ! (look ! 9 refl) $ forget ! 3 refl $ forget ! 5 refl $ forget ! 7 refl $ forget ! 9 refl $ move ! (9 ∷ 10 ∷ []) $ free1 ! $ move ! (7 ∷ 8 ∷ []) $ free1 ! $ move ! (5 ∷ 6 ∷ []) $ free1 ! $ move ! (3 ∷ 4 ∷ []) $ free1 ! $ free0 ! $
-        by ! (exits t u′ (e′ ∙ (ap (λ (x : RefT (List ℕ)). head-from (now x) (r .at)) (e .0) ∙ ap (head-from (now s)) (e .1))))))))))))))))
+        returns ! (look ! 9 refl) $ forget ! 3 refl $ forget ! 5 refl $ forget ! 7 refl $ forget ! 9 refl $
+        move ! (9 ∷ 10 ∷ []) $ free1 ! $ move ! (7 ∷ 8 ∷ []) $ free1 ! $ move ! (5 ∷ 6 ∷ []) $ free1 ! $
+        move ! (3 ∷ 4 ∷ []) $ free1 ! $ free0 ! $
+        by ! (exits t u′ (e′ ∙
+        (ap (λ (x : RefT (List ℕ)). head-from (now x) (r .at)) (e .0) ∙ ap (head-from (now s)) (e .1))))))))))))))))
 
-module _ {M : Type 1} (𝓤 : URA M) (H : Heap 𝓤) (A : Atoms 𝓤) (W : Given 𝓤 H A) (mem : Memory → SProp 𝓤) (run : Routine → Fun 𝓤) where
-  head-at-walks : (C : Calls 𝓤 H) (Λ : Loops 𝓤 H) → FmC 𝓤 H (W .laws) C → Triple 𝓤 (C #text·reader·placed) (Placed 𝓤 H A mem run) → Triple 𝓤 (C #text·reader·head) (Head 𝓤 H A mem run)
+module _ {M : Type 1} (𝓤 : URA M) (H : Heap 𝓤) (A : Atoms 𝓤) (W : Given 𝓤 H A) (mem : Memory → SProp 𝓤)
+    (run : Routine → Fun 𝓤) where
+  head-at-walks : (C : Calls 𝓤 H) (Λ : Loops 𝓤 H) → FmC 𝓤 H (W .laws) C →
+      Triple 𝓤 (C #text·reader·placed) (Placed 𝓤 H A mem run) → Triple 𝓤 (C #text·reader·head) (Head 𝓤 H A mem run)
       → Walks 𝓤 H A head-at.ended stayed (WpFn 𝓤 H C Λ code.function) (head-at.clauses 𝓤 H A mem run)
-  head-at-walks C Λ fm known-placed known-head = walked 𝓤 H A head-at.ended stayed (head-at.clauses 𝓤 H A mem run) (WpFn 𝓤 H C Λ code.function) (λ κs. (slice-vals, (uint-vals w64, tt))) (λ κs. (shr-slice-tells (named 0) (κs .0) u8, (uint-tells w64, tt)))
-      (λ κs qs bounds a g are. via 𝓤 _ (fst∗ 𝓤 _ (emp 𝓤)) (walk 𝓤 H A W mem run (κs .0) (qs .0) (a .0) (a .1 .0) (are .1 .0 .1) C Λ fm known-placed known-head (are .0)))
+  head-at-walks C Λ fm known-placed known-head =
+      walked 𝓤 H A head-at.ended stayed (head-at.clauses 𝓤 H A mem run) (WpFn 𝓤 H C Λ code.function)
+      (λ κs. (slice-vals, (uint-vals w64, tt))) (λ κs. (shr-slice-tells (named 0) (κs .0) u8, (uint-tells w64, tt)))
+      (λ κs qs bounds a g are. via 𝓤 _ (fst∗ 𝓤 _ (emp 𝓤))
+      (walk 𝓤 H A W mem run (κs .0) (qs .0) (a .0) (a .1 .0) (are .1 .0 .1) C Λ fm known-placed known-head (are .0)))
 
-head-at-meets : {M : Type 1} (𝓤 : URA M) (H : Heap 𝓤) (A : Atoms 𝓤) (W : Given 𝓤 H A) (mem : Memory → SProp 𝓤) (run : Routine → Fun 𝓤) (𝓣 : Tables 𝓤 H)
-    → Triple 𝓤 (𝓣 .C #text·reader·placed) (Placed 𝓤 H A mem run) → Triple 𝓤 (𝓣 .C #text·reader·head) (Head 𝓤 H A mem run)
+head-at-meets : {M : Type 1} (𝓤 : URA M) (H : Heap 𝓤) (A : Atoms 𝓤) (W : Given 𝓤 H A) (mem : Memory → SProp 𝓤)
+    (run : Routine → Fun 𝓤) (𝓣 : Tables 𝓤 H)
+    → Triple 𝓤 (𝓣 .C #text·reader·placed) (Placed 𝓤 H A mem run) → Triple 𝓤 (𝓣 .C #text·reader·head)
+    (Head 𝓤 H A mem run)
     → Meets 𝓤 H A head-at.signature (WpFn 𝓤 H (𝓣 .C) (𝓣 .Λ) code.function) (head-at.spec 𝓤 H A mem run)
-head-at-meets 𝓤 H A W mem run 𝓣 known-placed known-head = walk-meets 𝓤 H A head-at.ended stayed W (goes-none-slice 𝓤 H A W 1 (0 ∷ []) tt (plain (λ _. u8)) yes, (goes-none 𝓤 H A W 1 (λ _. usize) yes (λ κs x f. refl), tt)) (head-at.clauses 𝓤 H A mem run) (WpFn 𝓤 H (𝓣 .C) (𝓣 .Λ) code.function) (WpFn-mono 𝓤 H (W .laws) 𝓣 code.function)
+head-at-meets 𝓤 H A W mem run 𝓣 known-placed known-head =
+    walk-meets 𝓤 H A head-at.ended stayed W (
+      goes-none-slice 𝓤 H A W 1 (0 ∷ []) tt (plain (λ _. u8)) yes,
+      (goes-none 𝓤 H A W 1 (λ _. usize) yes (λ κs x f. refl), tt),
+    ) (head-at.clauses 𝓤 H A mem run)
+    (WpFn 𝓤 H (𝓣 .C) (𝓣 .Λ) code.function) (WpFn-mono 𝓤 H (W .laws) 𝓣 code.function)
     (head-at-walks 𝓤 H A W mem run (𝓣 .C) (𝓣 .Λ) (fmOf 𝓤 H (W .laws) 𝓣) known-placed known-head)
 
 pub head-at-spec : {M : Type 1} → stated.statement M
@@ -164,5 +278,8 @@ head-at-spec 𝓤 H 𝓜 𝓖 𝓡 =
     entered 𝓤 H (tripleOf 𝓤 H (𝓖 .A) head-at.signature (head-at.spec 𝓤 H (𝓖 .A) (𝓜 .mem) (𝓡 .run)))
     (tables 𝓤 H 𝓜 𝓡 code.env .C) (tables 𝓤 H 𝓜 𝓡 code.env .Λ) #text·reader·head-at code.function (code.unfolded 𝓤 H 𝓜 𝓡)
     (head-at-meets 𝓤 H (𝓖 .A) (givenOf 𝓤 H 𝓜 𝓖) (𝓜 .mem) (𝓡 .run) (tablesOf 𝓤 H 𝓜 (tables 𝓤 H 𝓜 𝓡 code.env))
-    (cited 𝓤 H (Placed 𝓤 H (𝓖 .A) (𝓜 .mem) (𝓡 .run)) 𝓜 𝓡 code.env #text·reader·placed placed-def.routine code.calls-text·reader·placed (placed-thm.met 𝓤 H 𝓜 𝓖 𝓡))
-    (cited 𝓤 H (Head 𝓤 H (𝓖 .A) (𝓜 .mem) (𝓡 .run)) 𝓜 𝓡 code.env #text·reader·head head-def.routine code.calls-text·reader·head (head-thm.met 𝓤 H 𝓜 𝓖 𝓡)))
+    (cited 𝓤 H (Placed 𝓤 H (𝓖 .A) (𝓜 .mem)
+    (𝓡 .run)) 𝓜 𝓡 code.env #text·reader·placed placed-def.routine code.calls-text·reader·placed
+    (placed-thm.met 𝓤 H 𝓜 𝓖 𝓡))
+    (cited 𝓤 H (Head 𝓤 H (𝓖 .A) (𝓜 .mem)
+    (𝓡 .run)) 𝓜 𝓡 code.env #text·reader·head head-def.routine code.calls-text·reader·head (head-thm.met 𝓤 H 𝓜 𝓖 𝓡)))

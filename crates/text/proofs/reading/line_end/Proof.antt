@@ -41,7 +41,7 @@ loop-again c =
     let a = b .before .args in (
       omega arith,
       b .loop .inv .1 ∙ end-next (a .text .now) (b .loop .end) (omega arith) (c .if1 .left)
-      ∙ rw (← add-one (b .loop .end)),
+          ∙ rw (← add-one (b .loop .end)),
     )
 
 returns-2 : tie.Need-returns-2 Inv-loop μ-loop

@@ -5,8 +5,16 @@ use native.Mathlib.Omega.{arith}
 use borrow.Author.Tests.{not-true, not-false}
 use borrow.Author.Needs.{needs}
 use Rattle.text.proofs.Forms.{field-within, last-within}
-use Rattle.text.proofs.Rowed.{trans, comma, row-first, row-second, row-third, row-fourth, row-unended,
-  row-whole}
+use Rattle.text.proofs.Rowed.{
+  trans,
+  comma,
+  row-first,
+  row-second,
+  row-third,
+  row-fourth,
+  row-unended,
+  row-whole,
+}
 use Rattle.text.proofs.reading.row_of.Statement.{statement}
 use Rattle.text.proofs.reading.row_of.Tie as tie
 

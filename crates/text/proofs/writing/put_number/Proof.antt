@@ -71,7 +71,7 @@ returns c =
     let a = c .before .before .before .before .args in
     let e : p .i ≡ 0 = omega arith in
     let h : put (p .out) (a .at) (pad 0 (p .left)) ≡ put (a .out .now) (a .at) (digits 5 (a .n)) =
-        rw e at (p .inv .3) in
+    rw e at (p .inv .3) in
     record {
       place = omega (arith, c .before .before .width .ensures);
       within = omega arith;

@@ -75,15 +75,15 @@ loop-again c =
     let i = b .loop .i in
     let h : i * 4 + 3 < length ns = omega arith in
     let r : row (d .before .before .before .from-at .result) (d .before .before .terminal-at .result)
-              (d .before .to-at .result) (d .code-at .result) ≡ row-at ns i =
-        row-as (row-at ns i) _ _ _ _
-          (d .before .before .before .from-at .ensures .is)
-          (d .before .before .terminal-at .ensures .is)
-          (d .before .to-at .ensures .is)
-          (d .code-at .ensures .is) in
+    (d .before .to-at .result) (d .code-at .result) ≡ row-at ns i =
+    row-as (row-at ns i) _ _ _ _
+    (d .before .before .before .from-at .ensures .is)
+    (d .before .before .terminal-at .ensures .is)
+    (d .before .to-at .ensures .is)
+    (d .code-at .ensures .is) in
     let p : Puts (b .loop .out) (b .loop .place) 35 (row-text (row-at ns i)) (w .put-row .last .0)
-      (w .put-row .result) =
-        rw r at (w .put-row .ensures) in
+    (w .put-row .result) =
+    rw r at (w .put-row .ensures) in
     let room : b .loop .place + 35 ≤ length (b .loop .out) = omega arith in (
       omega arith,
       refl,

@@ -43,8 +43,8 @@ loop-again c =
       omega arith,
       simp length-set (b .loop .inv .1),
       ap (λ (l : List ℕ). set l (a .at + i) (getD (a .word .now) i 0)) (b .loop .inv .2)
-      ∙ paste-suc (a .out .now) (a .at) (a .word .now) i 0 (omega arith) (omega arith)
-      ∙ rw (← add-one i),
+          ∙ paste-suc (a .out .now) (a .at) (a .word .now) i 0 (omega arith) (omega arith)
+          ∙ rw (← add-one i),
     )
 
 add-result : tie.Need-add-result Inv-loop μ-loop

@@ -1,15 +1,20 @@
-use Rattle.unite.proofs.Meets.{intake-longer, intake-as-long, archive-k}
+use Rattle.unite.proofs.Meets.{intake-k, archive-k}
 use borrow.Author.Needs.{needs}
 use Rattle.unite.proofs.meet.united_k.Statement.{statement}
 use Rattle.unite.proofs.meet.united_k.Tie as tie
 use Rattle.unite.proofs.meet.united_k.Reads as reads
 use Rattle.unite.proofs.meet.united_k.Lts as lts
+use Rattle.grow.proofs.larger.Reads as larger-reads
 
--- src/meet.rt:65:16
+-- src/meet.rt:63:9
+larger-requires : tie.Need-larger-requires
+larger-requires c κs = search needs
+
+-- src/meet.rt:65:25
 enum-told : tie.Need-enum-told
 enum-told c = search needs
 
--- src/meet.rt:71:26
+-- src/meet.rt:66:26
 enum-told-2 : tie.Need-enum-told-2
 enum-told-2 c = search needs
 
@@ -17,19 +22,13 @@ enum-told-2 c = search needs
 returns : tie.Need-returns
 returns c =
     let s = c .before .before .before in
-    intake-longer (s .args .mode) (s .args .a) (s .args .b) (c .before .enum-told .given .1) (c .if1 .taken)
+    intake-k (s .args .mode) (s .args .a) (s .args .b) (c .enum-told .given .1) _ (c .before .before .larger .ensures)
 
 -- src/meet.rt:60:1
 returns-2 : tie.Need-returns-2
 returns-2 c =
     let s = c .before .before .before in
-    intake-as-long (s .args .mode) (s .args .a) (s .args .b) (c .before .enum-told .given .1) (c .if1 .left)
-
--- src/meet.rt:60:1
-returns-3 : tie.Need-returns-3
-returns-3 c =
-    let s = c .before .before in
     archive-k (s .args .mode) (s .args .a) (s .args .b) (c .enum-told2 .given .1)
 
 pub united-k-spec : {M : Type 1} → statement M
-united-k-spec = tie.close (tie.spec enum-told enum-told-2 returns returns-2 returns-3)
+united-k-spec = tie.close (tie.spec larger-requires enum-told enum-told-2 returns returns-2)

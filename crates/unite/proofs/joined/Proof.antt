@@ -1,0 +1,139 @@
+use mathlib.Core.Path.{_≡_, sym, subst}
+use mathlib.Core.List.{List}
+use Prim.Native.Nat.{_/_, _≤_}
+use native.Mathlib.Omega.{arith}
+use lib.ListN.{length}
+use Rattle.paper.specs.Rows.{Row, rows-in}
+use Rattle.rows.specs.Places.{uncoded}
+use Rattle.ruled.proofs.Arrays.{clear}
+use Rattle.trees.proofs.Tree.{Tree}
+use Rattle.unite.specs.Taking.{United-rows}
+use Rattle.unite.specs.declared.taking.Union.{Union}
+use Rattle.unite.proofs.Outcomes.{clash-refuses, rows-make, union-as, copied-laid, copied-rows}
+use borrow.Author.Needs.{needs}
+use Rattle.unite.proofs.joined.Statement.{statement}
+use Rattle.unite.proofs.joined.Tie as tie
+use Rattle.unite.proofs.joined.Reads as reads
+use Rattle.unite.proofs.joined.Lts as lts
+use Rattle.grow.proofs.copy_front.Reads as copy-front-reads
+use Rattle.grow.proofs.finish.Reads as finish-reads
+use Rattle.unite.proofs.full.Reads as full-reads
+use Rattle.unite.proofs.taking.take_rows.Reads as take-rows-reads
+
+-- src/lib.rt:44:25
+slice-aggregate-copy-front : tie.Need-slice-aggregate-copy-front
+slice-aggregate-copy-front c = search needs
+
+-- src/lib.rt:44:5
+copy-front-requires : tie.Need-copy-front-requires
+copy-front-requires c κs = search needs
+
+-- src/lib.rt:45:41
+slice-aggregate-take-rows : tie.Need-slice-aggregate-take-rows
+slice-aggregate-take-rows c = search needs
+
+-- the array with the first's rows, and what came of the second's
+long : (c : tie.After-copy-front) → 4092 ≤ length (c .copy-front .last .1 .0)
+long c = omega (arith, c .copy-front .kept .1 .0)
+
+ended : (c : tie.After-take-rows) (x : Union) → c .take-rows .result ≡ x
+    → let a = c .before .before .before .before .before .before .args in
+      United-rows (a .mode) (rows-in (a .a .now)) (rows-in (a .b .now)) (c .take-rows .last .1 .0) x
+ended c x e =
+    let f = c .before .before .before .before in
+    let s = f .before .before in
+    let a = s .args in
+    union-as (a .mode) (rows-in (a .b .now)) (c .take-rows .last .1 .0)
+      (copied-rows (a .a .now) _ (f .copy-front .last .1 .0) (s .pre .0) (f .copy-front .ensures) (long f)) e
+      (c .take-rows .ensures)
+
+-- src/lib.rt:45:9
+take-rows-requires : tie.Need-take-rows-requires
+take-rows-requires c κs =
+    let f = c .before .before .before in
+    let s = f .before .before in
+    let a = s .args in
+    (copied-laid (a .a .now) _ (f .copy-front .last .1 .0) (s .pre .0) (f .copy-front .ensures) (long f),
+     subst Tree (sym (copied-rows (a .a .now) _ (f .copy-front .last .1 .0) (s .pre .0) (f .copy-front .ensures) (long f)))
+       (s .pre .0 .tree),
+     s .pre .1, clear)
+
+-- src/lib.rt:47:22
+enum-known-union : tie.Need-enum-known-union
+enum-known-union c = search needs
+
+-- src/lib.rt:48:24
+enum-told : tie.Need-enum-told
+enum-told c = search needs
+
+-- src/lib.rt:48:24
+full-requires : tie.Need-full-requires
+full-requires c κs =
+    let t = c .before .before .before in
+    let s = t .before .before .before .before .before .before in
+    (s .pre .0, s .pre .1, ended t _ (c .enum-told .given .1))
+
+-- src/lib.rt:49:21
+enum-known-union-2 : tie.Need-enum-known-union-2
+enum-known-union-2 c = search needs
+
+-- src/lib.rt:49:40
+slice-aggregate-finish : tie.Need-slice-aggregate-finish
+slice-aggregate-finish c = search needs
+
+-- src/lib.rt:49:27
+finish-requires : tie.Need-finish-requires
+finish-requires c κs =
+    let t = c .before .before .before .before .before .before in
+    let s = t .before .before .before .before .before .before in
+    let u = ended t _ (c .before .before .before .union2 .given .1) in
+    (u .laid, s .pre .2, s .pre .3)
+
+-- src/lib.rt:37:1
+returns : tie.Need-returns
+returns c =
+    let t = c .before .before .before .before in
+    let s = t .before .before .before .before .before .before in
+    let a = s .args in
+    clash-refuses (a .mode) (rows-in (a .a .now)) (rows-in (a .b .now)) _ _ (ended t _ (c .before .union .given .1))
+      .is (uncoded (a .code)) (a .k) (a .out .now)
+
+-- src/lib.rt:37:1
+returns-2 : tie.Need-returns-2
+returns-2 c =
+    let s = c .before .before .before .before .before .before .before .before .before .before in
+    let a = s .args in
+    c .full .ensures .is (uncoded (a .code)) (a .k) (a .out .now)
+
+-- src/lib.rt:37:1
+same-length : tie.Need-same-length
+same-length c = search needs
+
+-- src/lib.rt:37:1
+returns-3 : tie.Need-returns-3
+returns-3 c =
+    let k = c .before .before .before .before in
+    let t = k .before .before .before .before in
+    let s = t .before .before .before .before .before .before in
+    let a = s .args in
+    rows-make (a .mode) (rows-in (a .a .now)) (rows-in (a .b .now)) _ _ (a .code) (a .k)
+      (ended t _ (k .before .union2 .given .1)) _ _ _ (c .before .finish .ensures)
+
+pub joined-spec : {M : Type 1} → statement M
+joined-spec =
+    tie.close
+    (tie.spec
+    slice-aggregate-copy-front
+    copy-front-requires
+    slice-aggregate-take-rows
+    take-rows-requires
+    enum-known-union
+    enum-told
+    full-requires
+    enum-known-union-2
+    slice-aggregate-finish
+    finish-requires
+    returns
+    returns-2
+    same-length
+    returns-3)
