@@ -29,5 +29,6 @@ module _ (p : ℤ) (ts ns : List ℕ) (room : ℕ) (old : List ℤ) where
     accepted e q d r new m = rw (a, e, ← d) m
 
 -- a table that is another's
-pub makes-as : (t u : Table) (r : Making) (old new : List ℤ) → t ≡ u → Makes (within u) r old new → Makes (within t) r old new
+pub makes-as : (t u : Table) (r : Making) (old new : List ℤ) → t ≡ u → Makes (within u) r old new
+    → Makes (within t) r old new
 makes-as t u r old new e m = subst (λ (x : Table). Makes (within x) r old new) (sym e) m

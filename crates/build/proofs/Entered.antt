@@ -54,7 +54,8 @@ module _ (buf : List ℤ) (n s t : ℕ) where
     leads = leads-row buf n to i h (sym d);
   }
 
-  new-rows : find rs s t ≡ none → enter rs s t (find rs s t) ≡ record { rows = insert (next (length rs) s t 0) rs; state = suc (length rs) }
+  new-rows : find rs s t ≡ none → enter rs s t (find rs s t)
+      ≡ record { rows = insert (next (length rs) s t 0) rs; state = suc (length rs) }
   unfolding enter
   new-rows e = rw e
 
@@ -62,7 +63,8 @@ module _ (buf : List ℤ) (n s t : ℕ) where
   pub overflows : (i : ℕ) → Missed buf n i s t → 1023 ≤ n → 1023 < length (enter rs s t (find rs s t) .rows)
   overflows i m h =
       let e : length rs ≡ n = held-length buf n (room buf n (m .laid)) in
-      omega (arith, ap (λ (w : Standing). length (w .rows)) (new-rows (m .new)), length-insert (next (length rs) s t 0) rs)
+      omega (arith, ap (λ (w : Standing). length (w .rows)) (new-rows (m .new)), length-insert
+          (next (length rs) s t 0) rs)
 
   pub adding : (i : ℕ) → t ≤ 65535 → Missed buf n i s t → n < 1023 → Adding buf n i s t 0
   adding i k m h = record {
@@ -82,6 +84,7 @@ module _ (buf : List ℤ) (n s t : ℕ) where
       let e : length rs ≡ n = held-length buf n (room buf n (m .laid)) in
       rw add-one (record {
         laid = a .laid;
-        is = rw (a .rows) (sym (new-rows (m .new) ∙ ap (λ (k : ℕ). record { rows = insert (next k s t 0) rs; state = suc k }) e));
+        is = rw (a .rows) (sym (new-rows (m .new)
+            ∙ ap (λ (k : ℕ). record { rows = insert (next k s t 0) rs; state = suc k }) e));
         leads = leads-row new (suc n) (suc n) i (a .there) (ap (λ (x : Row). x .to) (a .at));
       })

@@ -33,7 +33,8 @@ string-grows : (q : ℕ) (t : Table) (σ : List ℕ) → length (walk-in (record
 unfolding add-string
 string-grows q t σ =
     let w = walk-in (record { rows = t .rows; state = 0 }) σ in
-    omega (arith, length-give (w .state) (some q) (record { prod0 = t .prod0; k = max (t .k) (length σ); rows = w .rows }))
+    omega (arith, length-give (w .state) (some q)
+        (record { prod0 = t .prod0; k = max (t .k) (length σ); rows = w .rows }))
 
 pub strings-grow : (q : ℕ) (t : Table) (σs : List (List ℕ)) → length (t .rows) ≤ length (add-strings q t σs .rows)
 unfolding add-strings
@@ -53,7 +54,8 @@ pub record Listing (q : ℕ) (tokens lengths : List ℕ) (buf : List ℤ) (rest 
   pub left : built q (strings lengths tokens) ≡ add-strings q (so-far code k buf n) (strings (drop i lengths) rest)
 
 starts : (q : ℕ) (tokens : List ℕ) (code : ℕ) (ns : List ℕ) → uncoded code ≡ cond (eqb (length ns) 0) (some q) none
-    → built q (strings ns tokens) ≡ add-strings q (record { prod0 = uncoded code; k = 0; rows = [] }) (strings ns tokens)
+    → built q (strings ns tokens) ≡ add-strings q (record { prod0 = uncoded code; k = 0; rows = [] })
+        (strings ns tokens)
 unfolding built strings add-strings
 starts q ts c [] d = rw d
 starts q ts c (n ∷ ns) d =
@@ -81,7 +83,8 @@ module _ (q : ℕ) (tokens lengths : List ℕ) (buf : List ℤ) (rest : List ℕ
   listed h = record {
     laid = L .laid;
     small = L .small;
-    is = L .left ∙ ap (λ (ns : List ℕ). add-strings q (so-far code k buf n) (strings ns rest)) (drop-of-length-le lengths h);
+    is = L .left ∙ ap (λ (ns : List ℕ). add-strings q (so-far code k buf n) (strings ns rest))
+        (drop-of-length-le lengths h);
   }
 
   module _ (h : i < length lengths) where
@@ -132,5 +135,6 @@ module _ (q : ℕ) (tokens lengths : List ℕ) (buf : List ℤ) (rest : List ℕ
             tree = subst (λ (t : Table). Tree (t .rows)) added-string
               (add-string-good q (so-far code k buf n) (take len rest) (L .tree) .tree);
             small = r .small;
-            left = next-string ∙ ap (λ (t : Table). add-strings q t (strings (drop (i + 1) lengths) (drop len rest))) added-string;
+            left = next-string ∙ ap (λ (t : Table). add-strings q t (strings (drop (i + 1) lengths) (drop len rest)))
+                added-string;
           })

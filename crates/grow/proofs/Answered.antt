@@ -41,7 +41,8 @@ within-fine t n e h =
     let l : suc (length (t .rows)) ≤ 1024 = omega arith in
     rw (le-ltb 1024 (suc (length (t .rows))) l, e)
 
-pub answers-full : (t : Table) (old : List ℤ) → 1023 < length (t .rows) → Makes (within t) (making.Refused refusal.Full) old old
+pub answers-full : (t : Table) (old : List ℤ) → 1023 < length (t .rows)
+    → Makes (within t) (making.Refused refusal.Full) old old
 answers-full t old h = rw (within-full t h) (record { says = refl; holds = refl })
 
 module _ (buf : List ℤ) (n code k : ℕ) (l : Laid buf n) where

@@ -26,7 +26,8 @@ use Rattle.grow.proofs.Written.{rows-numbers, no-row, held-length, held
 use Rattle.grow.proofs.Placed.{room, written, laid-by, uncoded-fits, fitting}
 
 -- rows none of which leads into s stay as they are
-pub paint-none : (s : ℕ) (q : Option ℕ) (rs : List Row) → ((x : Row) → In x rs → x .to ≡ s → ⊥) → map (paint s q) rs ≡ rs
+pub paint-none : (s : ℕ) (q : Option ℕ) (rs : List Row) → ((x : Row) → In x rs → x .to ≡ s → ⊥) → map (paint s q) rs
+    ≡ rs
 unfolding paint
 paint-none s q [] h = refl
 paint-none s q (r ∷ rs) h =
@@ -104,7 +105,8 @@ module _ (buf : List ℤ) (n i c : ℕ) (g : Giving buf n i c) where
       let (y, k, e) = Memᴰ·of-map (paint (r .to) (uncoded c)) rs j in
       let h : row-fits y ≡ true = every-in row-fits rs (g .laid .passed .fits) y k in
       let f : Fit y = fit y h in
-      ap row-fits (sym e) ∙ fitting (paint (r .to) (uncoded c) y) (f .from) (f .terminal) (f .to) (go (eqb (y .to) (r .to)) y h)
+      ap row-fits (sym e) ∙ fitting (paint (r .to) (uncoded c) y) (f .from) (f .terminal) (f .to)
+          (go (eqb (y .to) (r .to)) y h)
     where
       go : (b : Bool) (y : Row) → row-fits y ≡ true → production-fits (cond b (uncoded c) (y .production)) ≡ true
       go true y h = uncoded-fits c (g .production)

@@ -146,7 +146,8 @@ module _ (buf : List ℤ) (n i s t c : ℕ) (a : Adding buf n i s t c) where
     pub now-written : take (suc n * 4) new ≡ numbers (insert r rs)
     now-written =
         let b : length (take (i * 4) ns ++ row) ≡ suc n * 4 =
-            omega (arith, length-append (take (i * 4) ns) row, length-take-le (i * 4) ns (omega (arith, numbers-long, place-within)),
+            omega (arith, length-append (take (i * 4) ns) row, length-take-le (i * 4) ns
+                (omega (arith, numbers-long, place-within)),
               length-drop (i * 4) ns, numbers-long, place-within) in
         let w : numbers rs ≡ ns = written buf n (a .laid) in
         ap (take (suc n * 4)) cut ∙ take-at (take (i * 4) ns ++ row) (drop (n * 4 + 4) buf) (suc n * 4) b
@@ -160,7 +161,8 @@ module _ (buf : List ℤ) (n i s t c : ℕ) (a : Adding buf n i s t c) where
         ∙ ap (λ (l : List Row). getD l i no-row) (ap rows-in now-written ∙ rows-numbers (insert r rs) ∙ split)
         ∙ getD-at (take i rs) r (drop i rs) no-row i (length-take-le i rs (omega (arith, place-within, rows-long)));
       laid = laid-by new (suc n) (insert r rs) (omega (arith, a .more)) (omega (arith, a .laid .room)) now-written
-        (every-true row-fits (insert r rs) (λ x j. ⊎-elim (λ k. ap row-fits k ∙ own) (λ k. old x k) (in-insert r rs x j)))
+        (every-true row-fits (insert r rs)
+            (λ x j. ⊎-elim (λ k. ap row-fits k ∙ own) (λ k. old x k) (in-insert r rs x j)))
         (rising-true (insert r rs) (rising-insert r rs (true-rising rs (a .laid .passed .rises)) (a .new)));
       rows = ap rows-in now-written ∙ rows-numbers (insert r rs);
     }

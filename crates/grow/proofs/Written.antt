@@ -99,7 +99,8 @@ module _ (buf : List ℤ) (n : ℕ) (h : n * 4 ≤ length buf) where
   pub held-row : (i : ℕ) → i < n → row-held buf n i ≡ row-at buf i
   held-row i l =
       rw (getD-take (n * 4) buf (i * 4) (pos 0) (omega arith), getD-take (n * 4) buf (i * 4 + 1) (pos 0) (omega arith),
-        getD-take (n * 4) buf (i * 4 + 2) (pos 0) (omega arith), getD-take (n * 4) buf (i * 4 + 3) (pos 0) (omega arith))
+        getD-take (n * 4) buf (i * 4 + 2) (pos 0) (omega arith), getD-take (n * 4) buf (i * 4 + 3) (pos 0)
+            (omega arith))
 
   pub held-at : (i : ℕ) → i < n → getD (held buf n) i no-row ≡ row-held buf n i
   held-at i l = row-there (take (n * 4) buf) i (omega (arith, held-numbers))

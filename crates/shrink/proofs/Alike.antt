@@ -1,19 +1,17 @@
 -- The rows of states by marks, walked row by row: their number, and whether they are equal.
 -- Assumes walks that stand at rows of their states.
-use mathlib.Core.Path.{_≡_, refl, sym, ap, _∙_}
-use mathlib.Core.Bool.{Bool, true, false, cond, not, _&&_}
-use mathlib.Core.Option.{Option, none, some}
+use mathlib.Core.Path.{_≡_, sym, ap, _∙_}
+use mathlib.Core.Bool.{Bool, true, false, not, _&&_}
+use mathlib.Core.Option.{Option}
 use mathlib.Core.List.{List, [], _∷_}
-use Prim.Native.Nat.{ℕ, zero, suc, _+_, _*_, _%_, _<_, _≤_}
+use Prim.Native.Nat.{ℕ, _+_, _*_, _%_, _<_}
 use native.Mathlib.Omega.{arith}
 use borrow.Author.Tests.{eq-eqb, ne-eqb}
-use lib.Dec.{eqb}
-use lib.ListN.{length}
 use lib.IntN.{ℤ}
 use Rattle.paper.specs.declared.Mode.{Mode}
-use Rattle.paper.specs.Rows.{Row, Table, rows-in}
+use Rattle.paper.specs.Rows.{Table, rows-in}
 use Rattle.paper.specs.Checks.{same-production}
-use Rattle.paper.specs.Shrink.{production-of, rows-of, redirect, same-rows}
+use Rattle.paper.specs.Shrink.{rows-of, redirect, same-rows}
 use Rattle.rows.specs.Places.{row-at, rest, code, uncoded}
 use Rattle.ruled.proofs.Splits.{code-same, same-path}
 use Rattle.merging.specs.Marks.{compared}

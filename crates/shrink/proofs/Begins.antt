@@ -1,18 +1,18 @@
 -- Where a state's rows begin and end in a row slice, and the rows of a state from a place on.
 -- Assumes, where it says so, rows that passed 1 to 3.
 use mathlib.Core.Path.{_≡_, refl, sym, ap, _∙_}
-use mathlib.Core.Bool.{Bool, true, false, cond, _&&_}
+use mathlib.Core.Bool.{Bool, true, false, cond}
 use mathlib.Core.List.{List, [], _∷_}
 use Prim.Native.Nat.{ℕ, zero, suc, _+_, _-_, _*_, _/_, _<_, _≤_}
 use native.Mathlib.Omega.{arith}
 use native.Mathlib.Numerals.{add-one}
-use borrow.Author.Tests.{eq-eqb, ne-eqb, eqb-true, eqb-false, lt-ltb, le-ltb, ltb-true}
+use borrow.Author.Tests.{eq-eqb, ne-eqb, eqb-true, lt-ltb, ltb-true}
 use lib.Dec.{eqb, ltb}
 use lib.ListN.{length, set, getD, replicate, length-replicate, getD-replicate}
 use lib.IntN.{ℤ}
 use Rattle.paper.specs.Rows.{Row, rows-in}
 use Rattle.paper.specs.Shrink.{rows-of}
-use Rattle.rows.specs.Places.{row-at, rest, key}
+use Rattle.rows.specs.Places.{row-at, rest}
 use Rattle.rows.specs.Search.{Passed}
 use Rattle.rows.proofs.Rest.{rest-cons, rest-end, both}
 use Rattle.rows.proofs.Keys.{compared}

@@ -1,23 +1,22 @@
 -- Numbers given upward: each mark gets the next number at its lowest state.
 -- Assumes marks below 1,024.
 use mathlib.Core.Path.{_≡_, refl, sym, ap, _∙_, subst}
-use mathlib.Core.Logic.{_⊎_, inl, inr, ⊎-elim}
-use mathlib.Core.Bool.{Bool, true, false, not, false≢true}
-use mathlib.Core.List.{List, [], _∷_}
-use Prim.Native.Nat.{ℕ, suc, _+_, _≤_, _<_}
+use mathlib.Core.Bool.{false, false≢true}
+use mathlib.Core.List.{List, []}
+use Prim.Native.Nat.{ℕ, suc, _+_, _<_}
 use native.Mathlib.Omega.{arith}
 use native.Mathlib.Numerals.{add-one}
-use borrow.Author.Tests.{eq-eqb, ne-eqb, eqb-true, eqb-false}
+use borrow.Author.Tests.{eq-eqb, eqb-true, eqb-false}
 use lib.Dec.{eqb}
 use lib.ListN.{length, getD, set, length-set}
 use lib.Seq.{getD-set-same, getD-set-other}
 use Rattle.laws.proofs.Members.{In}
-use Rattle.paper.specs.Rows.{Row, Table, states}
+use Rattle.paper.specs.Rows.{Table, states}
 use Rattle.rows.proofs.Keys.{compared}
 use Rattle.rows.proofs.Rest.{by-test}
 use Rattle.ruled.specs.Into.{Holds}
 use Rattle.merging.specs.Numbers.{Ascending}
-use Rattle.merging.specs.Marks.{lowest-of, heads, place-among, head-of, heads-of}
+use Rattle.merging.specs.Marks.{lowest-of, place-among, head-of, heads-of}
 use Rattle.merging.proofs.Ends.{Lowest, lowest, lowest-is, in-heads, heads-in, heads-ascend}
 use Rattle.merging.proofs.States.{states-ascend}
 use Rattle.merging.proofs.Places.{place-low, place-lt, place-zero}

@@ -1,25 +1,25 @@
 -- The rows of a state written one after the other, and those of one head after another.
 -- Assumes rows into one state of one production, and the new numbers of marks.
 use mathlib.Core.Path.{_≡_, refl, sym, ap, _∙_, subst}
-use mathlib.Core.Logic.{_⊎_, inl, inr, ⊎-elim}
+use mathlib.Core.Logic.{_⊎_, ⊎-elim}
 use mathlib.Core.Bool.{Bool, true, false, cond}
 use mathlib.Core.Option.{Option, none}
-use mathlib.Core.List.{List, [], _∷_, _++_, map, append-assoc, append-nil, map-append}
-use Prim.Native.Nat.{ℕ, zero, suc, _+_, _-_, _*_, _/_, _≤_, _<_}
+use mathlib.Core.List.{List, [], _∷_, _++_, map, append-assoc, append-nil}
+use Prim.Native.Nat.{ℕ, zero, suc, _+_, _-_, _/_, _≤_, _<_}
 use native.Mathlib.Omega.{arith}
 use native.Mathlib.Numerals.{add-one}
 use lib.Dec.{ltb}
 use lib.ListN.{length, getD, length-append, length-map}
 use lib.IntN.{ℤ}
-use Rattle.laws.proofs.Members.{In, here, there, nowhere, where-in}
+use Rattle.laws.proofs.Members.{In, here, there, where-in}
 use Rattle.paper.specs.Rows.{Row, Table, rows-in, states}
 use Rattle.paper.specs.Checks.{split}
 use Rattle.paper.specs.Shrink.{production-of, rows-of}
 use Rattle.rows.specs.Places.{row-at, rest}
 use Rattle.rows.proofs.Rest.{rest-cons, length-rows}
 use Rattle.merging.specs.Numbers.{Ascending, asc-nil, asc-cons}
-use Rattle.merging.specs.Marks.{source-of, head-of, heads-of, lowest-of, place-among, under, marked-row, marked-rows}
-use Rattle.merging.proofs.States.{to-state, rows-of-state}
+use Rattle.merging.specs.Marks.{heads-of, lowest-of, place-among, under, marked-row, marked-rows}
+use Rattle.merging.proofs.States.{rows-of-state}
 use Rattle.merging.proofs.Ruled.{row-production}
 use Rattle.merging.proofs.Ends.{in-heads}
 use Rattle.merging.proofs.Output.{marked-length}
@@ -34,7 +34,7 @@ use Rattle.merging.proofs.Loops.{
 }
 use Rattle.shrink.specs.Index.{leaves}
 use Rattle.shrink.specs.Faces.{coded, mark-in}
-use Rattle.shrink.specs.Classes.{State, Topped}
+use Rattle.shrink.specs.Classes.{Topped}
 use Rattle.shrink.specs.Output.{Named, Placed, new-row, new-pair, Written, Emitted, all-rows}
 use Rattle.shrink.proofs.Begins.{Standing, Walk, stand-row, stand-end, leaves-yes}
 use Rattle.shrink.proofs.Counting.{heads-rise, head-state}

@@ -1,22 +1,22 @@
 -- The states of a row slice: 0, and those that the array of rows into states names.
 -- Assumes that array, and where it says so rows within their bounds.
-use mathlib.Core.Path.{_≡_, refl, sym, ap, _∙_, subst}
-use mathlib.Core.Logic.{⊎-elim, _⊎_, inl, inr}
-use mathlib.Core.Bool.{Bool, true, false, not, false≢true}
+use mathlib.Core.Path.{_≡_, sym, ap, _∙_, subst}
+use mathlib.Core.Logic.{⊎-elim, _⊎_}
+use mathlib.Core.Bool.{true, false, not, false≢true}
 use mathlib.Core.List.{List}
 use Prim.Native.Nat.{ℕ, _+_, _-_, _<_, _≤_}
 use native.Mathlib.Nat.{eq-or-lt-of-le}
 use native.Mathlib.Omega.{arith}
 use borrow.Author.Tests.{eq-eqb, ne-eqb, eqb-true, not-true, not-false}
 use lib.Dec.{eqb}
-use lib.ListN.{length, getD}
+use lib.ListN.{getD}
 use lib.IntN.{ℤ}
 use Rattle.laws.proofs.Every.{any-some, any-true, every-in}
 use Rattle.laws.proofs.Members.{In}
-use Rattle.paper.specs.Rows.{Row, rows-in, states}
+use Rattle.paper.specs.Rows.{rows-in, states}
 use Rattle.paper.specs.Checks.{any, row-fits}
 use Rattle.rows.proofs.Fits.{fit}
-use Rattle.ruled.specs.Into.{into-from, Holds, Marked, Fitting, leads}
+use Rattle.ruled.specs.Into.{Marked, Fitting, leads}
 use Rattle.ruled.proofs.Firsts.{into-any}
 use Rattle.merging.proofs.States.{zero-state, to-state, in-states}
 use Rattle.shrink.specs.Faces.{coded}

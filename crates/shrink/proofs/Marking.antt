@@ -1,13 +1,11 @@
 -- States that all have their marks are marked, and a mark is the highest state of its class.
 -- Assumes that each state's mark is no lower than the state.
-use mathlib.Core.Path.{_≡_, refl, sym, ap, _∙_}
-use mathlib.Core.Bool.{Bool, true, false, cond}
+use mathlib.Core.Path.{_≡_, sym, ap, _∙_}
+use mathlib.Core.Bool.{true, false}
 use mathlib.Core.List.{List, []}
-use Prim.Native.Nat.{ℕ, _≤_, _<_}
-use native.Mathlib.Omega.{arith}
-use Rattle.laws.proofs.Members.{In}
+use Prim.Native.Nat.{ℕ}
 use Rattle.paper.specs.declared.Mode.{Mode}
-use Rattle.paper.specs.Rows.{Table, states}
+use Rattle.paper.specs.Rows.{Table}
 use Rattle.paper.specs.Shrink.{rows-of, redirect}
 use Rattle.rows.proofs.Rest.{by-test}
 use Rattle.merging.specs.Marks.{compared, source-of, Alike, Marks}

@@ -1,14 +1,14 @@
 -- Shrink in its parts: the refusals, and the answer of a table that passed them.
 -- Assumes classes of its states and the rows written for them.
 use mathlib.Core.Path.{_≡_, refl, sym, ap, _∙_, subst}
-use mathlib.Core.Bool.{Bool, true, false, not, _||_}
-use mathlib.Core.Option.{Option, none, some}
+use mathlib.Core.Bool.{true, false, not}
+use mathlib.Core.Option.{Option, none}
 use mathlib.Core.List.{List, [], _∷_, _++_, map}
-use Prim.Native.Nat.{ℕ, zero, suc, _+_, _*_, _%_, _≤_, _<_}
+use Prim.Native.Nat.{ℕ, zero, suc, _+_, _%_, _≤_, _<_}
 use native.Mathlib.Omega.{arith}
 use borrow.Author.Tests.{lt-ltb, le-ltb, ltb-false}
 use lib.Dec.{eqb, ltb}
-use lib.ListN.{length, drop}
+use lib.ListN.{length}
 use lib.IntN.{ℤ, pos, negsuc}
 use Rattle.laws.proofs.Members.{In, here, there}
 use Rattle.laws.proofs.Every.{neither}
@@ -16,26 +16,25 @@ use Rattle.paper.specs.declared.Mode.{Mode}
 use Rattle.paper.specs.declared.Making.{Making}
 use Rattle.paper.specs.declared.Making.the-variants as making
 use Rattle.paper.specs.declared.Refusal.{Refusal}
-use Rattle.paper.specs.declared.Refusal.the-variants.{Length}
-use Rattle.paper.specs.Rows.{Row, Table, accepting, signed, rows-in, numbers, table, states}
-use Rattle.paper.specs.Answers.{Ruling, accept, refuse, then, output, Made, Heading, made, Makes, number, detail}
-use Rattle.paper.specs.Checks.{first, row-slice, little-room, shape, split, ruled}
+use Rattle.paper.specs.Rows.{Row, Table, accepting, signed, rows-in, table, states}
+use Rattle.paper.specs.Answers.{Ruling, accept, refuse, Made, Makes, number, detail}
+use Rattle.paper.specs.Checks.{row-slice, little-room, shape, split, ruled}
 use Rattle.paper.specs.Shrink.{production-of, rows-of, shrunk, shrink-table, shrink}
 use Rattle.rows.specs.Places.{code, uncoded}
 use Rattle.rows.specs.Search.{Passed}
 use Rattle.rows.specs.Verdicts.{Judges, follow}
 use Rattle.rows.specs.declared.verdict.Verdict.{Verdict}
-use Rattle.rows.specs.declared.verdict.Verdict.the-variants.{Pass, Refused}
+use Rattle.rows.specs.declared.verdict.Verdict.the-variants.{Refused}
 use Rattle.rows.proofs.Judged.{judged, bounded}
 use Rattle.ruled.specs.Into.{Fitting}
-use Rattle.ruled.proofs.Passes.{Ruled, ruled-passed, ruled-rows, fitting}
-use Rattle.merging.specs.Marks.{source-of, heads-of, marked-row, marked-rows, marked, Alike, Marks}
+use Rattle.ruled.proofs.Passes.{ruled-passed, ruled-rows, fitting}
+use Rattle.merging.specs.Marks.{source-of, heads-of, marked-row, marked-rows, marked, Marks}
 use Rattle.merging.proofs.States.{rows-of-in}
 use Rattle.merging.proofs.Ruled.{row-production}
 use Rattle.merging.proofs.Shrunk.{shrunk-by-marks}
 use Rattle.shrink.specs.Faces.{coded, mark-in}
-use Rattle.shrink.specs.Classes.{Classes, State}
-use Rattle.shrink.specs.Output.{Named, Written, all-rows, Wrote, Shrunk, Sound}
+use Rattle.shrink.specs.Classes.{Classes}
+use Rattle.shrink.specs.Output.{Named, Written, all-rows, Shrunk, Sound}
 use Rattle.shrink.proofs.Productions.{uncoded-code}
 use Rattle.shrink.proofs.Entered.{state-small}
 use Rattle.shrink.proofs.Marking.{class-marks, class-state, class-source}

@@ -1,19 +1,18 @@
 -- The pass down the states: one state more has its mark, and its number where it is kept.
 -- Assumes a table whose rows climb and whose states are below 1,024.
-use mathlib.Core.Path.{_≡_, refl, sym, ap, ap₂, _∙_, subst}
+use mathlib.Core.Path.{_≡_, refl, sym, ap, _∙_, subst}
 use mathlib.Core.Logic.{_⊎_, inl, inr, ⊎-elim}
-use mathlib.Core.Bool.{Bool, true, false, cond, _&&_, false≢true}
-use mathlib.Core.List.{List, [], _∷_}
-use Prim.Native.Nat.{ℕ, suc, _+_, _-_, _%_, _≤_, _<_}
+use mathlib.Core.Bool.{Bool, true, false, cond, false≢true}
+use mathlib.Core.List.{List, []}
+use Prim.Native.Nat.{ℕ, _+_, _-_, _%_, _≤_, _<_}
 use native.Mathlib.Omega.{arith}
 use borrow.Author.Tests.{eq-eqb, ne-eqb}
 use lib.Dec.{eqb}
 use lib.ListN.{length, getD, set, length-set}
 use lib.Seq.{getD-set-same, getD-set-other}
-use lib.IntN.{ℤ}
 use Rattle.laws.proofs.Members.{In}
 use Rattle.paper.specs.declared.Mode.{Mode}
-use Rattle.paper.specs.Rows.{Row, Table, states}
+use Rattle.paper.specs.Rows.{Table}
 use Rattle.paper.specs.Checks.{shape}
 use Rattle.paper.specs.Shrink.{Node, rows-of, equal}
 use Rattle.rows.specs.Places.{code}
@@ -23,7 +22,7 @@ use Rattle.merging.proofs.Equal.{equal-eq, eq-equal}
 use Rattle.merging.proofs.States.{rows-of-in, rows-of-state}
 use Rattle.merging.proofs.Ruled.{rows-climb}
 use Rattle.shrink.specs.Faces.{mark-in, production-at, counted, like, hash, sign}
-use Rattle.shrink.specs.Classes.{State, Topped, Like, Settled, From, Classed, Head, Chosen, Classes}
+use Rattle.shrink.specs.Classes.{State, Topped, Like, Settled, From, Classed, Chosen, Classes}
 use Rattle.shrink.proofs.Alike.{hash-small}
 use Rattle.shrink.proofs.Settling.{counted-agree, settle-new, settle-join, settled-as}
 

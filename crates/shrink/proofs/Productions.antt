@@ -4,17 +4,17 @@ use mathlib.Core.Path.{_≡_, refl, sym, ap, _∙_}
 use mathlib.Core.Bool.{Bool, true, false, cond}
 use mathlib.Core.Option.{Option, none, some}
 use mathlib.Core.List.{List, [], _∷_}
-use Prim.Native.Nat.{ℕ, zero, suc, _+_, _-_, _*_, _<_, _≤_}
+use Prim.Native.Nat.{ℕ, zero, suc, _-_, _<_}
 use native.Mathlib.Omega.{arith}
 use lib.Dec.{eqb, eqb·suc-zero}
-use lib.ListN.{length, getD}
+use lib.ListN.{getD}
 use lib.IntN.{ℤ}
 use Rattle.paper.specs.declared.Mode.{Mode}
 use Rattle.paper.specs.declared.Mode.the-variants.{Archive, Intake}
 use Rattle.paper.specs.Rows.{Row, rows-in}
 use Rattle.paper.specs.Shrink.{production-of}
 use Rattle.rows.specs.Places.{code, uncoded}
-use Rattle.ruled.specs.Into.{into-from, Holds, Marked}
+use Rattle.ruled.specs.Into.{into-from, Marked}
 use Rattle.ruled.proofs.Firsts.{First, into-row}
 use Rattle.merging.specs.Marks.{compared}
 

@@ -2,14 +2,13 @@
 -- Assumes that the states done before have theirs.
 use mathlib.Core.Path.{_≡_, refl, sym, ap, _∙_}
 use mathlib.Core.Logic.{_⊎_, inl, inr, ⊎-elim}
-use mathlib.Core.Bool.{Bool, true, false, cond}
+use mathlib.Core.Bool.{cond}
 use mathlib.Core.List.{List, []}
-use Prim.Native.Nat.{ℕ, _≤_, _<_}
-use native.Mathlib.Omega.{arith}
+use Prim.Native.Nat.{ℕ}
 use Rattle.laws.proofs.Members.{In}
 use Rattle.paper.specs.declared.Mode.{Mode}
 use Rattle.paper.specs.Rows.{Table}
-use Rattle.paper.specs.Shrink.{rows-of, redirect}
+use Rattle.paper.specs.Shrink.{rows-of}
 use Rattle.merging.specs.Marks.{compared}
 use Rattle.merging.proofs.Redirect.{same-redirect}
 use Rattle.shrink.specs.Faces.{production-at, counted}

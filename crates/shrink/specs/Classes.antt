@@ -5,11 +5,10 @@ use mathlib.Core.List.{List, List·Memᴰ}
 use Prim.Native.Nat.{ℕ, _≤_, _<_}
 use lib.Dec.{eqb}
 use lib.ListN.{length, getD, set}
-use lib.IntN.{ℤ}
 use Rattle.paper.specs.declared.Mode.{Mode}
 use Rattle.paper.specs.Rows.{Row, Table, states}
 use Rattle.paper.specs.Shrink.{rows-of}
-use Rattle.shrink.specs.Faces.{coded, mark-in, production-at, counted, like, sign}
+use Rattle.shrink.specs.Faces.{mark-in, production-at, counted, like, sign}
 
 -- A test tells whether A holds.
 pub record Tells (A : Type 0) (r : Bool) : Type 0 where

@@ -5,14 +5,14 @@ use paper::Mode;
 ghost use mathlib.Core.Path.{_≡_};
 ghost use mathlib.Core.Bool.{false, _&&_};
 ghost use lib.Dec.{eqb};
-ghost use Prim.Native.Nat.{ℕ, _+_, _*_, _/_, _<_, _≤_};
+ghost use Prim.Native.Nat.{_+_, _<_, _≤_};
 ghost use lib.ListN.{length, getD};
 ghost use Rattle.paper.specs.Rows.{rows-in};
 ghost use Rattle.paper.specs.Checks.{shape};
 ghost use Rattle.ruled.specs.Into.{Fitting, Marked, Holds};
-ghost use Rattle.shrink.specs.Index.{Begun, Indexed};
+ghost use Rattle.shrink.specs.Index.{Indexed};
 ghost use Rattle.shrink.specs.Faces.{coded, mark-in, like};
-ghost use Rattle.shrink.specs.Classes.{Tells, State, Topped, Classed, Head, Chosen, Classes};
+ghost use Rattle.shrink.specs.Classes.{Tells, State, Topped, Head, Chosen, Classes};
 
 // s is a state: 0, or one that a row leads into.
 pub fn is_state(rows: &[i32], into: &[u16; 1024], s: usize) -> bool

@@ -1,7 +1,7 @@
 // Where the rows of each state begin, and where they end.
 use rows::numbers;
 ghost use mathlib.Core.Path.{_≡_};
-ghost use Prim.Native.Nat.{_+_, _*_, _/_, _<_, _≤_};
+ghost use Prim.Native.Nat.{_/_, _<_, _≤_};
 ghost use lib.ListN.{length, getD};
 ghost use Rattle.paper.specs.Rows.{rows-in};
 ghost use Rattle.ruled.specs.Into.{Fitting, Holds};

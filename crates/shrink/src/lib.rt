@@ -5,11 +5,11 @@ use paper::Refusal;
 use rows::numbers;
 use rows::verdict::Verdict;
 
-pub mod classes;
-pub mod emit;
-pub mod index;
-pub mod places;
-pub mod same;
+mod classes;
+mod emit;
+mod index;
+mod places;
+mod same;
 
 ghost use mathlib.Core.Path.{_≡_};
 ghost use mathlib.Core.Bool.{false};
@@ -25,7 +25,7 @@ ghost use Rattle.shrink.specs.Classes.{Topped};
 ghost use Rattle.shrink.specs.Output.{Named, Wrote, Shrunk, Sound};
 
 // How many rows and states a shrunk table has.
-pub struct Sizes {
+struct Sizes {
     pub rows: usize,
     pub states: usize,
 }

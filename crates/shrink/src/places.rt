@@ -3,7 +3,7 @@ use crate::classes;
 use crate::index;
 ghost use mathlib.Core.Path.{_≡_};
 ghost use Prim.Native.Nat.{_<_, _≤_};
-ghost use lib.ListN.{length, getD};
+ghost use lib.ListN.{length};
 ghost use Rattle.paper.specs.Rows.{rows-in};
 ghost use Rattle.ruled.specs.Into.{Marked, Holds};
 ghost use Rattle.merging.specs.Marks.{heads-of};

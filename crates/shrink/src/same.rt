@@ -4,7 +4,7 @@ use paper::Mode;
 use rows::numbers;
 ghost use mathlib.Core.Path.{_≡_};
 ghost use Prim.Native.Nat.{_+_, _*_, _/_, _<_, _≤_};
-ghost use lib.ListN.{length, getD};
+ghost use lib.ListN.{length};
 ghost use Rattle.paper.specs.Rows.{rows-in};
 ghost use Rattle.paper.specs.Shrink.{production-of, rows-of, redirect};
 ghost use Rattle.rows.specs.Places.{code, uncoded, row-at};

@@ -4,11 +4,13 @@ mod predicting;
 mod rust_tests;
 mod say;
 mod shrinking;
+mod uniting;
 
 fn main() {
     predicting::all();
     explaining::all();
     let mut out = [0i32; 16384];
+    uniting::all(&mut out);
     shrinking::all(&mut out);
     rust_tests::all(&mut out);
 }

@@ -49,7 +49,8 @@ lead-on xs w t tr h = go (lead (plain xs) w) refl
         sym (rw n)
 
 -- what is looked up is what follows
-pub looked-match : (mode : Mode) (q : Option ℕ) (g : Option Row) (v : ℕ) → looked mode q g ≡ accept v → v ≡ mark (seat-of g)
+pub looked-match : (mode : Mode) (q : Option ℕ) (g : Option Row) (v : ℕ) → looked mode q g ≡ accept v
+    → v ≡ mark (seat-of g)
 unfolding looked seat-of
 looked-match mode q none v e = cc
 looked-match mode q (some x) v e = go (taken mode (x .production) q) e
@@ -75,11 +76,13 @@ module _ (mode : Mode) (a : List ℕ → Word) (pB : Option ℕ) (D rs : List Ro
 
   pub own-none : find rs (matched ms (r .from)) (r .terminal) ≡ none → a new ≡ none
   unfolding word path said
-  own-none e = sym own ∙ ap said (onward-none (find rs) (lead (so-far none 0 rs ms .table) w) (r .terminal) x e₁ (rw e₂ e))
+  own-none e = sym own ∙ ap said
+      (onward-none (find rs) (lead (so-far none 0 rs ms .table) w) (r .terminal) x e₁ (rw e₂ e))
 
   pub own-some : (z : Row) → find rs (matched ms (r .from)) (r .terminal) ≡ some z → a new ≡ some (z .production)
   unfolding word path said
-  own-some z e = sym own ∙ ap said (onward-some (find rs) (lead (so-far none 0 rs ms .table) w) (r .terminal) x e₁ z (rw e₂ e))
+  own-some z e = sym own ∙ ap said
+      (onward-some (find rs) (lead (so-far none 0 rs ms .table) w) (r .terminal) x e₁ z (rw e₂ e))
 
 refused-of : {A B : Type 0} (g : Ruling A) (f : A → B) (n : ℕ) (d : List ℕ) → then g (λ c. accept (f c)) ≡ refuse n d
     → g ≡ refuse n d
@@ -100,7 +103,8 @@ unfolding said seat-of
 alike a none none h k e = neither
 alike a none (some x) h k e = absurd (never (sym (h refl) ∙ e))
 alike a (some z) none h k e = absurd (never (sym e ∙ k z refl))
-alike a (some z) (some x) h k e = both {x = x} {z = z} (let d : some (x .production) ≡ some (z .production) = sym e ∙ k z refl in cc)
+alike a (some z) (some x) h k e =
+    let d : some (x .production) ≡ some (z .production) = sym e ∙ k z refl in both {x = x} {z = z} (cc)
 
 module _ (mode : Mode) (rs : List Row) (s t : ℕ) (q : Option ℕ) where
   pub alike-refused : (g o : Option Row) → Alike g o → (n : ℕ) (d : List ℕ) → looked mode q g ≡ refuse n d
@@ -117,7 +121,8 @@ module _ (mode : Mode) (rs : List Row) (s t : ℕ) (q : Option ℕ) where
   alike-taken (some x) (some z) (both k) v e = rw (← k) (go (taken mode (x .production) q) e)
     where
       go : (g : Ruling (Option ℕ)) → _≡_ {A = Ruling ℕ} (then g (λ _. accept (x .to))) (accept v)
-          → (w : Standing) × (then {B = Standing} g (λ c. accept (record { rows = map (paint (z .to) c) rs; state = z .to }))
+          → (w : Standing) × (then {B = Standing} g
+              (λ c. accept (record { rows = map (paint (z .to) c) rs; state = z .to }))
             ≡ accept w)
       go (accept c) e = (_, refl)
       go (refuse m f) e = absurd (let z : _≡_ {A = ℕ} 0 1 = cc in omega arith)

@@ -44,7 +44,8 @@ merge-none Archive = refl
 merge-none Intake = refl
 
 -- no row taken yet
-pub matching-none : (mode : Mode) (rs : List Row) → Tree rs → Matching mode (word (plain rs)) none [] (so-far none 0 rs [])
+pub matching-none : (mode : Mode) (rs : List Row) → Tree rs → Matching mode (word (plain rs)) none []
+    (so-far none 0 rs [])
 unfolding begun
 matching-none mode rs tr = subst (λ (p : Option ℕ). Matching mode (word (plain rs)) none [] (so-far p 0 rs []))
     (merge-none mode) (matching-start mode (plain rs) tr none 0 (λ p q e f. absurd (never e)))
@@ -99,7 +100,8 @@ begins mode b buf map n l tr t m = record {
   left = λ p k. refl;
 }
 
-module _ (mode : Mode) (xs : List Row) (b buf : List ℤ) (map : List ℕ) (n i : ℕ) (o : Ongoing mode xs b buf map n i) where
+module _ (mode : Mode) (xs : List Row) (b buf : List ℤ) (map : List ℕ) (n i : ℕ) (o : Ongoing mode xs b buf map n i)
+    where
   pub ends : length b / 4 ≤ i → Unites mode xs (rows-in b) buf n
   unfolding take-rows
   ends h = record {
@@ -138,9 +140,11 @@ module _ (mode : Mode) (xs : List Row) (b buf : List ℤ) (map : List ℕ) (n i 
 
     pub overflows : Over (one-row mode (held buf n) (o .matches) r) → Overflows mode xs (rows-in b)
     overflows v = record {
-      is = λ p k u e. many-stay mode 1024 (after p k (o .matches) r (v .standing)) u (rest b (i + 1)) (omega (arith, v .over))
+      is = λ p k u e. many-stay mode 1024 (after p k (o .matches) r (v .standing)) u (rest b (i + 1))
+          (omega (arith, v .over))
         (sym (here p k
-          ∙ step-taken mode (held buf n) (o .matches) (o .matching .tree) r (v .standing) (v .is) p k (rest b (i + 1))) ∙ e);
+          ∙ step-taken mode (held buf n) (o .matches) (o .matching .tree) r (v .standing) (v .is) p k
+              (rest b (i + 1))) ∙ e);
     }
 
     pub goes-on : (new : List ℤ) (m s : ℕ) → Stands new m s (one-row mode (held buf n) (o .matches) r)

@@ -77,7 +77,8 @@ module _ (mode : Mode) (A B : Table) (old : List ℤ) where
   root-refuses p q e = rw e (record { says = refl; holds = refl })
 
   pub root-makes : (z : Option ℕ) (k : ℕ) → root mode (A .prod0) (B .prod0) ≡ accept z → k ≡ united-k mode (A .k) (B .k)
-      → (r : Making) (new : List ℤ) → Makes (joining mode z k (A .rows) (B .rows)) r old new → Makes (united mode A B) r old new
+      → (r : Making) (new : List ℤ) → Makes (joining mode z k (A .rows) (B .rows)) r old new
+          → Makes (united mode A B) r old new
   unfolding united
   root-makes z k e d r new m = rw (e, ← d) m
 
@@ -87,17 +88,20 @@ module _ (t : Table) (x : Ruling Made) (old : List ℤ) where
   checks-refuse f j = subst (λ (g : Ruling Made). Makes g (making.Refused f) old old) (sym (judged x j))
       (record { says = refl; holds = refl })
 
-  pub checks-pass : Judges (tree t) Pass → (r : Making) (new : List ℤ) → Makes x r old new → Makes (first (tree t) x) r old new
+  pub checks-pass : Judges (tree t) Pass → (r : Making) (new : List ℤ) → Makes x r old new
+      → Makes (first (tree t) x) r old new
   checks-pass j r new m = subst (λ (g : Ruling Made). Makes g r old new) (sym (judged x j)) m
 
 -- ---- 1
 module _ (mode : Mode) (p : ℤ) (k : ℕ) (ns : List ℤ) (q : ℤ) (l : ℕ) (ms : List ℤ) (room : ℕ) (old : List ℤ) where
-  pub first-refused : row-slice ns ≡ true → Makes (unite mode p k ns q l ms room) (making.Refused refusal.Length) old old
+  pub first-refused : row-slice ns ≡ true → Makes (unite mode p k ns q l ms room) (making.Refused refusal.Length) old
+      old
   unfolding unite
   first-refused e = rw e (record { says = refl; holds = refl })
 
   module _ (a : row-slice ns ≡ false) where
-    pub second-refused : row-slice ms ≡ true → Makes (unite mode p k ns q l ms room) (making.Refused refusal.Length) old old
+    pub second-refused : row-slice ms ≡ true → Makes (unite mode p k ns q l ms room) (making.Refused refusal.Length)
+        old old
     unfolding unite
     second-refused e = rw (a, e) (record { says = refl; holds = refl })
 
@@ -107,7 +111,8 @@ module _ (mode : Mode) (p : ℤ) (k : ℕ) (ns : List ℤ) (q : ℤ) (l : ℕ) (
       room-refused h = rw (a, b, lt-ltb room 16384 h) (record { says = refl; holds = refl })
 
       pub all-checks : 16384 ≤ room → (r : Making) (new : List ℤ)
-          → Makes (first (tree (table p k ns)) (first (tree (table q l ms)) (united mode (table p k ns) (table q l ms)))) r old new
+          → Makes (first (tree (table p k ns))
+              (first (tree (table q l ms)) (united mode (table p k ns) (table q l ms)))) r old new
           → Makes (unite mode p k ns q l ms room) r old new
       unfolding unite unite-tables little-room
       all-checks h r new m = rw (a, b, le-ltb room 16384 h) m
@@ -122,7 +127,8 @@ pub passes-as : {p q : ℤ} (k : ℕ) (ns : List ℤ) → p ≡ q → Passes p k
 passes-as k ns e h = subst (λ (z : ℤ). Passes z k ns) e h
 
 pub united-as : (mode : Mode) {p q u v : ℤ} (k l : ℕ) (ns ms : List ℤ) (r : Making) (old new : List ℤ) → p ≡ q → u ≡ v
-    → Makes (united mode (table p k ns) (table u l ms)) r old new → Makes (united mode (table q k ns) (table v l ms)) r old new
+    → Makes (united mode (table p k ns) (table u l ms)) r old new
+        → Makes (united mode (table q k ns) (table v l ms)) r old new
 united-as mode {p} {q} {u} {v} k l ns ms r old new e d m =
     let z : united mode (table p k ns) (table u l ms) ≡ united mode (table q k ns) (table v l ms) =
         λ j. united mode (table (e j) k ns) (table (d j) l ms) in

@@ -38,7 +38,8 @@ use Rattle.unite.proofs.Looked.{mark, lead-on, looked-match, own-none, 
 
 -- the map holds for each state reached by the rows D its match in xs
 abbrev pub Marks : List Row → List Row → List ℕ → Type 0
-Marks xs D map = (v : List ℕ) (y : Seat) → path none (find D) v ≡ some y → getD map (y .state) 0 ≡ mark (lead (plain xs) v)
+Marks xs D map = (v : List ℕ) (y : Seat) → path none (find D) v ≡ some y
+    → getD map (y .state) 0 ≡ mark (lead (plain xs) v)
 
 pub record Scanning (mode : Mode) (xs : List Row) (b : List ℤ) (map : List ℕ) (i : ℕ) : Type 0 where
   pub within : i ≤ length b / 4
@@ -49,7 +50,8 @@ pub record Scanning (mode : Mode) (xs : List Row) (b : List ℤ) (map : List ℕ
   pub matching : Matching mode (word (plain xs)) none done (so-far none 0 rows matches)
   pub sized : length map ≡ 1024
   pub marks : Marks xs done map
-  pub left : (p : Option ℕ) (k : ℕ) → all-rows mode xs (rows-in b) p k ≡ take-rows mode (so-far p k rows matches) (rest b i)
+  pub left : (p : Option ℕ) (k : ℕ)
+      → all-rows mode xs (rows-in b) p k ≡ take-rows mode (so-far p k rows matches) (rest b i)
 
 -- no row reaches any state but 0
 marks-none : (xs : List Row) (map : List ℕ) → Clear map → Marks xs [] map
@@ -108,7 +110,8 @@ module _ (mode : Mode) (xs : List Row) (b : List ℤ) (map : List ℕ) (i : ℕ)
 
     -- the path to the row's from
     from-path : (w : List ℕ) × (y : Seat) × (path none (find (o .done)) w ≡ some y) × (y .state ≡ r .from)
-    from-path = start-of mode (word (plain xs)) none (o .done) (so-far none 0 (o .rows) (o .matches)) (o .matching) r (first .0)
+    from-path = start-of mode (word (plain xs)) none (o .done) (so-far none 0 (o .rows) (o .matches)) (o .matching) r
+        (first .0)
 
     abbrev W : List ℕ
     W = from-path .0
@@ -130,15 +133,19 @@ module _ (mode : Mode) (xs : List Row) (b : List ℤ) (map : List ℕ) (i : ℕ)
         let (x, e₁, e₂) = o .matching .match w y at in
         let e₃ : x .state ≡ matched (o .matches) (r .from) = e₂ ∙ ap (matched (o .matches)) is in
         alike (word (plain xs) (r .terminal ∷ w)) (find (o .rows) (matched (o .matches) (r .from)) (r .terminal)) G
-          (own-none mode (word (plain xs)) none (o .done) (o .rows) (o .matches) (o .matching) r (first .0) w y at is x e₁ e₃)
-          (own-some mode (word (plain xs)) none (o .done) (o .rows) (o .matches) (o .matching) r (first .0) w y at is x e₁ e₃)
+          (own-none mode (word (plain xs)) none (o .done) (o .rows) (o .matches) (o .matching) r (first .0) w y at is
+              x e₁ e₃)
+          (own-some mode (word (plain xs)) none (o .done) (o .rows) (o .matches) (o .matching) r (first .0) w y at is
+              x e₁ e₃)
           (ap said leads)
 
-    pub scan-clashes : (x y : ℕ) → looked mode (r .production) G ≡ refuse 8 (x ∷ y ∷ []) → Clashes mode xs (rows-in b) x y
+    pub scan-clashes : (x y : ℕ) → looked mode (r .production) G ≡ refuse 8 (x ∷ y ∷ [])
+        → Clashes mode xs (rows-in b) x y
     scan-clashes x y e = record {
       is = λ p k. here p k
         ∙ step-refused mode (o .rows) (o .matches) (o .matching .tree) r 8 (x ∷ y ∷ [])
-          (alike-refused mode (o .rows) (matched (o .matches) (r .from)) (r .terminal) (r .production) G _ one-production 8
+          (alike-refused mode (o .rows) (matched (o .matches) (r .from)) (r .terminal) (r .production) G _
+              one-production 8
             (x ∷ y ∷ []) e)
           p k (rest b (i + 1));
     }
@@ -154,14 +161,17 @@ module _ (mode : Mode) (xs : List Row) (b : List ℤ) (map : List ℕ) (i : ℕ)
         go (yes k) =
             let s : path none (find (o .done ++ (r ∷ []))) v ≡ some (sit r) =
                 ap (path none (find (o .done ++ (r ∷ [])))) k
-                ∙ grown-here none (find (o .done)) (find (o .done ++ (r ∷ []))) W (from-path .1) (r .terminal) r grown in
+                ∙ grown-here none (find (o .done)) (find (o .done ++ (r ∷ []))) W (from-path .1) (r .terminal) r
+                  grown in
             let z : y .state ≡ r .to = cc in
             ap (λ (x : ℕ). getD (set map (r .to) u) x 0) z
             ∙ getD-set-same map (r .to) u 0 (omega (arith, scan-fit .to, o .sized))
-            ∙ looked-match mode (r .production) G u e ∙ ap mark (sym leads) ∙ ap (λ (w : List ℕ). mark (lead (plain xs) w)) (sym k)
+            ∙ looked-match mode (r .production) G u e ∙ ap mark (sym leads)
+                ∙ ap (λ (w : List ℕ). mark (lead (plain xs) w)) (sym k)
         go (no n) =
             let s : path none (find (o .done)) v ≡ some y =
-                sym (grown-other none (find (o .done)) (find (o .done ++ (r ∷ []))) W (from-path .1) (r .terminal) r grown v n) ∙ d in
+                sym (grown-other none (find (o .done)) (find (o .done ++ (r ∷ []))) W (from-path .1) (r .terminal) r
+                    grown v n) ∙ d in
             getD-set-other map (r .to) (y .state) u 0 (not-there (o .done) r (first .0) v y s) ∙ o .marks v y s
 
     pub scan-on : (u : ℕ) → looked mode (r .production) G ≡ accept u → Scanning mode xs b (set map (r .to) u) (i + 1)
@@ -178,7 +188,8 @@ module _ (mode : Mode) (xs : List Row) (b : List ℤ) (map : List ℕ) (i : ℕ)
             (first .0) d;
           sized = simp length-set (o .sized);
           marks = marks-on u e;
-          left = λ p k. here p k ∙ step-taken mode (o .rows) (o .matches) (o .matching .tree) r w d p k (rest b (i + 1));
+          left = λ p k. here p k ∙ step-taken mode (o .rows) (o .matches) (o .matching .tree) r w d p k
+              (rest b (i + 1));
         }
 
 pub few-rows : (ns : List ℤ) → Treed ns → length (rows-in ns) ≤ 1023

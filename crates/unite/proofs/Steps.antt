@@ -96,7 +96,8 @@ invert : {mode : Mode} {a : List ℕ → Word} {pB : Option ℕ} {D : List Row} 
 invert {mode} {a} {pB} {D} v (fine {u} i) e = let z : u ≡ v = cc in subst (λ (x : United). Matching mode a pB D x) z i
 invert v (clashed w e₁ e₂ n) e = absurd (let z : _≡_ {A = ℕ} 0 1 = cc in omega arith)
 
-pub match-on : (mode : Mode) (a : List ℕ → Word) (pB p : Option ℕ) (k : ℕ) (D rs : List Row) (ms : List (ℕ × ℕ)) (r : Row) (w : Standing)
+pub match-on : (mode : Mode) (a : List ℕ → Word) (pB p : Option ℕ) (k : ℕ) (D rs : List Row) (ms : List (ℕ × ℕ))
+    (r : Row) (w : Standing)
     → Matching mode a pB D (so-far p k rs ms) → Next D r → one-row mode rs ms r ≡ accept w
     → Matching mode a pB (D ++ (r ∷ [])) (after p k ms r w)
 match-on mode a pB p k D rs ms r w i nx e =

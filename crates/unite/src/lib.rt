@@ -106,7 +106,8 @@ pub fn unite(
     b: &[i32],
     out: &mut [i32],
 ) -> Making
-    ensures { λ r. ⌜ Makes (unite mode prod0a ka (now (a .entry)) prod0b kb (now (b .entry)) (length (now (out .entry))))
+    ensures { λ r. ⌜ Makes (unite mode prod0a ka (now (a .entry)) prod0b kb (now (b .entry))
+        (length (now (out .entry))))
         r (now (out .entry)) (now (out .exit)) ⌝ }
 {
     if rows::checks::row_slice(a) {

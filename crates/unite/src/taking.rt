@@ -72,7 +72,8 @@ fn take_row(
     code: usize,
 ) -> Took
     requires { ⌜ Laid (now buf) n × Tree (held (now buf) n) × (from .0 ≤ 1023) × (code ≤ 65536) ⌝ }
-    ensures { λ r. ⌜ Takes (now (buf .exit)) (taking mode (held (now (buf .entry)) n) (from .0) (token .0) (uncoded code)
+    ensures { λ r. ⌜ Takes (now (buf .exit))
+        (taking mode (held (now (buf .entry)) n) (from .0) (token .0) (uncoded code)
         (find (held (now (buf .entry)) n) (from .0) (token .0))) r ⌝ }
 {
     let found = rows::search::find(&buf[..n * 4], from.0 as usize, token.0 as usize);

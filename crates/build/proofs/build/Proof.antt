@@ -46,7 +46,8 @@ ranged : (c : tie.After-range) {b : Bool} → let a = c .before .before .before 
     c .range .result ≡ b → build-range (a .production) (a .lengths .now) ≡ b
 ranged c e =
     let s = c .before .before .before .before .before in
-    sym (c .range .ensures ∙ ap (λ (z : ℤ). build-range z (s .args .lengths .now)) (same (s .args .production) (s .fits .production)))
+    sym (c .range .ensures ∙ ap (λ (z : ℤ). build-range z (s .args .lengths .now))
+        (same (s .args .production) (s .fits .production)))
     ∙ e
 
 -- src/lib.rt:46:9

@@ -50,7 +50,8 @@ finish-requires c κs =
 returns : tie.Need-returns
 returns c =
     let s = c .before .before .before .before .before .before .before in
-    answers-full (built (s .args .production .0) (strings (s .args .lengths .now) (s .args .tokens .now))) (s .args .out .now)
+    answers-full (built (s .args .production .0) (strings (s .args .lengths .now) (s .args .tokens .now)))
+        (s .args .out .now)
       (rw (c .enum-told .given .1) at (c .before .before .before .add-strings .ensures))
 
 -- src/lib.rt:16:1
@@ -62,7 +63,8 @@ returns-2 : tie.Need-returns-2
 returns-2 c =
     let h = c .before .before .before .before in
     let s = h .before .before .before .before .before .before .before .before in
-    makes-as (built (s .args .production .0) (strings (s .args .lengths .now) (s .args .tokens .now))) _ _ _ _ (holds h .is)
+    makes-as (built (s .args .production .0) (strings (s .args .lengths .now) (s .args .tokens .now))) _ _ _ _
+        (holds h .is)
       (c .before .finish .ensures)
 
 pub written-spec : {M : Type 1} → statement M

@@ -1,4 +1,4 @@
-use mathlib.Core.Path.{_≡_, refl, sym, _∙_}
+use mathlib.Core.Path.{sym, _∙_}
 use lib.ListN.{length}
 use Rattle.paper.specs.declared.Refusal.the-variants.{Length}
 use Rattle.rows.proofs.Signed.{same}

@@ -1,4 +1,4 @@
-use mathlib.Core.Path.{_≡_, refl}
+use mathlib.Core.Path.{refl}
 use mathlib.Core.Option.{none}
 use Rattle.paper.specs.Rows.{rows-in}
 use Rattle.rows.specs.Places.{uncoded}

@@ -1,10 +1,9 @@
-use mathlib.Core.Path.{_≡_, refl, sym, ap, _∙_}
-use Prim.Native.Nat.{ℕ, _/_}
+use mathlib.Core.Path.{_≡_, ap, _∙_}
+use Prim.Native.Nat.{_/_}
 use native.Mathlib.Omega.{arith}
 use lib.ListN.{length}
 use lib.IntN.{ℤ}
 use Rattle.paper.specs.Rows.{accepting}
-use Rattle.paper.specs.declared.Making.the-variants.{Made}
 use Rattle.rows.specs.Places.{code}
 use Rattle.rows.proofs.Signed.{same}
 use Rattle.shrink.proofs.Begins.{filled}

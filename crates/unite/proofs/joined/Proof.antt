@@ -54,7 +54,8 @@ take-rows-requires c κs =
     let s = f .before .before in
     let a = s .args in
     (copied-laid (a .a .now) _ (f .copy-front .last .1 .0) (s .pre .0) (f .copy-front .ensures) (long f),
-     subst Tree (sym (copied-rows (a .a .now) _ (f .copy-front .last .1 .0) (s .pre .0) (f .copy-front .ensures) (long f)))
+     subst Tree (sym (copied-rows (a .a .now) _ (f .copy-front .last .1 .0) (s .pre .0) (f .copy-front .ensures)
+         (long f)))
        (s .pre .0 .tree),
      s .pre .1, clear)
 

@@ -6,7 +6,8 @@ use Rattle.paper.specs.Rows.{table}
 use Rattle.paper.specs.Checks.{row-slice}
 use Rattle.rows.proofs.Signed.{same}
 use Rattle.unite.proofs.Passing.{sized}
-use Rattle.unite.proofs.Outcomes.{first-refused, second-refused, room-refused, all-checks, checks-refuse, checks-pass}
+use Rattle.unite.proofs.Outcomes.{first-refused, second-refused, room-refused, all-checks, checks-refuse,
+    checks-pass}
 use Rattle.unite.proofs.Outcomes.{judges-as, passes-as, second-as}
 use borrow.Author.Needs.{needs}
 use Rattle.unite.proofs.unite.Statement.{statement}
@@ -26,7 +27,8 @@ returns : tie.Need-returns
 returns c =
     let s = c .before .before in
     let a = s .args in
-    first-refused (a .mode) (a .prod0a) (a .ka) (a .a .now) (a .prod0b) (a .kb) (a .b .now) (length (a .out .now)) (a .out .now)
+    first-refused (a .mode) (a .prod0a) (a .ka) (a .a .now) (a .prod0b) (a .kb) (a .b .now) (length (a .out .now))
+        (a .out .now)
       (sym (c .before .row-slice .ensures) ∙ c .if1 .taken)
 
 -- src/lib.rt:115:8
@@ -46,7 +48,8 @@ returns-2 c =
     let e = c .before .before in
     let s = e .before .before in
     let a = s .args in
-    second-refused (a .mode) (a .prod0a) (a .ka) (a .a .now) (a .prod0b) (a .kb) (a .b .now) (length (a .out .now)) (a .out .now)
+    second-refused (a .mode) (a .prod0a) (a .ka) (a .a .now) (a .prod0b) (a .kb) (a .b .now) (length (a .out .now))
+        (a .out .now)
       (first-left e) (sym (c .before .row-slice2 .ensures) ∙ c .if2 .taken)
 
 -- src/lib.rt:119:9
@@ -55,7 +58,8 @@ returns-3 c =
     let e = c .before in
     let s = e .before .before .before .before in
     let a = s .args in
-    room-refused (a .mode) (a .prod0a) (a .ka) (a .a .now) (a .prod0b) (a .kb) (a .b .now) (length (a .out .now)) (a .out .now)
+    room-refused (a .mode) (a .prod0a) (a .ka) (a .a .now) (a .prod0b) (a .kb) (a .b .now) (length (a .out .now))
+        (a .out .now)
       (first-left (e .before .before)) (second-left e) (c .if3 .taken)
 
 -- src/lib.rt:121:9
@@ -82,7 +86,8 @@ with-second-requires c κs =
     let a = s .args in
     (passes-as (a .ka) (a .a .now) (sym (same (a .prod0a) (s .fits .prod0a))) (record {
        sized = sized (a .a .now) (first-left (e .before .before));
-       judged = judges-as (a .ka) (a .a .now) (same (a .prod0a) (s .fits .prod0a)) (d .enum-told .given .1) (t .tree .ensures);
+       judged = judges-as (a .ka) (a .a .now) (same (a .prod0a) (s .fits .prod0a)) (d .enum-told .given .1)
+           (t .tree .ensures);
      }),
      sized (a .b .now) (second-left e), t .before .if3 .left)
 
@@ -93,10 +98,12 @@ returns-4 c =
     let e = t .before .before in
     let s = e .before .before .before .before in
     let a = s .args in
-    all-checks (a .mode) (a .prod0a) (a .ka) (a .a .now) (a .prod0b) (a .kb) (a .b .now) (length (a .out .now)) (a .out .now)
+    all-checks (a .mode) (a .prod0a) (a .ka) (a .a .now) (a .prod0b) (a .kb) (a .b .now) (length (a .out .now))
+        (a .out .now)
       (first-left (e .before .before)) (second-left e) (t .before .if3 .left) _ _
       (checks-refuse (table (a .prod0a) (a .ka) (a .a .now)) _ (a .out .now) _
-        (judges-as (a .ka) (a .a .now) (same (a .prod0a) (s .fits .prod0a)) (c .before .verdict .given .1) (t .tree .ensures)))
+        (judges-as (a .ka) (a .a .now) (same (a .prod0a) (s .fits .prod0a)) (c .before .verdict .given .1)
+            (t .tree .ensures)))
 
 -- src/lib.rt:99:1
 same-length : tie.Need-same-length
@@ -110,11 +117,14 @@ returns-5 c =
     let e = t .before .before in
     let s = e .before .before .before .before in
     let a = s .args in
-    all-checks (a .mode) (a .prod0a) (a .ka) (a .a .now) (a .prod0b) (a .kb) (a .b .now) (length (a .out .now)) (a .out .now)
+    all-checks (a .mode) (a .prod0a) (a .ka) (a .a .now) (a .prod0b) (a .kb) (a .b .now) (length (a .out .now))
+        (a .out .now)
       (first-left (e .before .before)) (second-left e) (t .before .if3 .left) _ _
       (checks-pass (table (a .prod0a) (a .ka) (a .a .now)) _ (a .out .now)
-        (judges-as (a .ka) (a .a .now) (same (a .prod0a) (s .fits .prod0a)) (d .enum-told .given .1) (t .tree .ensures)) _ _
-        (second-as (a .mode) (a .ka) (a .kb) (a .a .now) (a .b .now) _ (a .out .now) _ (same (a .prod0a) (s .fits .prod0a))
+        (judges-as (a .ka) (a .a .now) (same (a .prod0a) (s .fits .prod0a)) (d .enum-told .given .1)
+            (t .tree .ensures)) _ _
+        (second-as (a .mode) (a .ka) (a .kb) (a .a .now) (a .b .now) _ (a .out .now) _
+            (same (a .prod0a) (s .fits .prod0a))
           (same (a .prod0b) (s .fits .prod0b)) (c .before .with-second .ensures)))
 
 pub unite-spec : {M : Type 1} → statement M

@@ -85,7 +85,8 @@ returns c =
     let r = c .before .before .before in
     let s = r .before .before .before in
     let a = s .args in
-    root-refuses (a .mode) (table (a .prod0a) (a .ka) (a .a .now)) (table (a .prod0b) (a .kb) (a .b .now)) (a .out .now) _ _
+    root-refuses (a .mode) (table (a .prod0a) (a .ka) (a .a .now)) (table (a .prod0b) (a .kb) (a .b .now))
+        (a .out .now) _ _
       (rooted r _ (c .before .root2 .given .1))
 
 -- src/lib.rt:54:1
@@ -100,7 +101,8 @@ returns-2 c =
     let r = m .before .before in
     let s = r .before .before .before in
     let a = s .args in
-    root-makes (a .mode) (table (a .prod0a) (a .ka) (a .a .now)) (table (a .prod0b) (a .kb) (a .b .now)) (a .out .now) _ _
+    root-makes (a .mode) (table (a .prod0a) (a .ka) (a .a .now)) (table (a .prod0b) (a .kb) (a .b .now)) (a .out .now)
+        _ _
       (rooted r _ (m .root3 .given .1) .1) (u .united-k .ensures) _ _ (c .before .joined .ensures)
 
 pub united-spec : {M : Type 1} → statement M

@@ -52,7 +52,8 @@ fits c =
 
 -- src/strings.rt:165:39
 slice-aggregate-add-string : tie.Need-slice-aggregate-add-string Inv-loop μ-loop
-slice-aggregate-add-string c = sym (length-take-le _ (c .before .before .before .before .loop .rest .now) (fits (c .before .before)))
+slice-aggregate-add-string c = sym
+    (length-take-le _ (c .before .before .before .before .loop .rest .now) (fits (c .before .before)))
 
 -- src/strings.rt:165:13
 add-string-requires : tie.Need-add-string-requires Inv-loop μ-loop
@@ -136,7 +137,8 @@ loop-again c =
     let len = getD (a .lengths .now) (l .loop .i) 0 in
     (e .add-string .kept .0 ∙ l .loop .inv .0,
      rw (r .larger .ensures)
-       (lists-next (a .production .0) (a .tokens .now) (a .lengths .now) (l .loop .buf) (l .loop .rest .now) (l .loop .n)
+       (lists-next (a .production .0) (a .tokens .now) (a .lengths .now) (l .loop .buf) (l .loop .rest .now)
+           (l .loop .n)
          (l .loop .code) (l .loop .k) (l .loop .i) (l .loop .inv .1) (omega arith) _ _ _ _
          (rw (r .before .before .before .step .given .1) at (e .add-string .ensures)) (r .before .next-code .ensures)))
 

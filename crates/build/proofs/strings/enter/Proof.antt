@@ -106,7 +106,8 @@ returns c =
     let s = c .before .before .before .before .before .before .before .before .before in
     let h = below (c .before .before) in
     goes (s .args .buf .now) (s .args .n) (s .args .state .0) (s .args .token .0) _ _ (s .pre .0) h
-      (there (c .before .before) .1) (to-read (s .args .buf .now) (s .args .n) _ _ (s .pre .0) h (c .to-at .ensures .is))
+      (there (c .before .before) .1)
+          (to-read (s .args .buf .now) (s .args .n) _ _ (s .pre .0) h (c .to-at .ensures .is))
 
 -- src/strings.rt:51:1
 same-length-2 : tie.Need-same-length-2

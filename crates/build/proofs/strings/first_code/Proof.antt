@@ -16,7 +16,8 @@ add-result c = search needs
 
 -- src/strings.rt:124:9
 returns : tie.Need-returns
-returns c = opens-empty (c .before .before .args .lengths .now) (c .before .before .args .production .0) (omega arith) (c .before .if1 .taken)
+returns c = opens-empty (c .before .before .args .lengths .now) (c .before .before .args .production .0) (omega arith)
+    (c .before .if1 .taken)
 
 -- src/strings.rt:120:1
 returns-2 : tie.Need-returns-2

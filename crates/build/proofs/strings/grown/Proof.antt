@@ -11,7 +11,8 @@ use Rattle.grow.proofs.add.Reads as add-reads
 returns : tie.Need-returns
 returns c =
     let s = c .before in
-    overflows (s .args .buf .now) (s .args .n) (s .args .state .0) (s .args .token .0) (s .args .i) (s .pre) (c .if1 .taken)
+    overflows (s .args .buf .now) (s .args .n) (s .args .state .0) (s .args .token .0) (s .args .i) (s .pre)
+        (c .if1 .taken)
 
 -- src/strings.rt:42:5
 add-requires : tie.Need-add-requires

@@ -1,5 +1,5 @@
-use mathlib.Core.Path.{_≡_, sym, _∙_}
-use Prim.Native.Nat.{ℕ, _-_, _≤_}
+use mathlib.Core.Path.{sym, _∙_}
+use Prim.Native.Nat.{_-_}
 use native.Mathlib.Omega.{arith}
 use Rattle.shrink.specs.Faces.{coded, mark-in, like}
 use Rattle.shrink.proofs.Searched.{Missed, missed-start, missed-next, head-found, head-none}

@@ -1,4 +1,4 @@
-use mathlib.Core.Path.{_≡_, sym, _∙_}
+use mathlib.Core.Path.{sym, _∙_}
 use Rattle.shrink.specs.Faces.{coded, mark-in, like}
 use Rattle.shrink.proofs.Searched.{meets-not, meets-as}
 use borrow.Author.Needs.{needs}

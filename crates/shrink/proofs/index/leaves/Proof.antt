@@ -1,6 +1,4 @@
-use mathlib.Core.Path.{_≡_, ap}
 use borrow.Author.Tests.{le-ltb, lt-ltb}
-use Rattle.rows.specs.Places.{row-at}
 use borrow.Author.Needs.{needs}
 use Rattle.shrink.proofs.index.leaves.Statement.{statement}
 use Rattle.shrink.proofs.index.leaves.Tie as tie

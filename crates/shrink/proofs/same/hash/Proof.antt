@@ -1,14 +1,11 @@
-use mathlib.Core.Path.{_≡_, refl, sym, ap, _∙_}
-use mathlib.Core.List.{List}
-use Prim.Native.Nat.{ℕ, _+_, _-_, _*_, _%_, _/_, _<_, _≤_}
+use mathlib.Core.Path.{_≡_, sym, _∙_}
+use Prim.Native.Nat.{_-_, _/_, _<_}
 use native.Mathlib.Omega.{arith}
 use lib.ListN.{length}
 use Rattle.paper.specs.Rows.{rows-in}
 use Rattle.paper.specs.Shrink.{rows-of, redirect}
-use Rattle.rows.specs.Places.{rest}
-use Rattle.rows.proofs.Bracket.{fit-at}
 use Rattle.shrink.specs.Faces.{mark-in, hash}
-use Rattle.shrink.proofs.Begins.{Standing, Walk, walk-begins, stand-next, leaves-yes}
+use Rattle.shrink.proofs.Begins.{Standing, walk-begins, stand-next, leaves-yes}
 use Rattle.shrink.proofs.Alike.{left, hash-start, hash-next, hash-end}
 use borrow.Author.Needs.{needs}
 use Rattle.shrink.proofs.same.hash.Statement.{statement}

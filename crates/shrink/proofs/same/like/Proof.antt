@@ -1,4 +1,4 @@
-use mathlib.Core.Path.{_≡_, refl, sym, ap, _∙_}
+use mathlib.Core.Path.{sym, _∙_}
 use borrow.Author.Tests.{not-true, not-false}
 use Rattle.shrink.specs.Faces.{mark-in}
 use Rattle.shrink.proofs.Alike.{like-not, like-cut, like-rows}

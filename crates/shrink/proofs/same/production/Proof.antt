@@ -1,4 +1,4 @@
-use mathlib.Core.Path.{_≡_, sym, ap, _∙_}
+use mathlib.Core.Path.{sym, ap, _∙_}
 use Rattle.rows.specs.Places.{code, uncoded}
 use Rattle.shrink.proofs.Productions.{production-none, production-row}
 use borrow.Author.Needs.{needs}

@@ -1,6 +1,4 @@
-use mathlib.Core.Path.{_≡_, sym, _∙_}
-use borrow.Author.Tests.{eq-eqb, ne-eqb, not-true}
-use Rattle.rows.specs.Places.{row-at}
+use borrow.Author.Tests.{eq-eqb, ne-eqb}
 use Rattle.shrink.specs.Faces.{same-row}
 use borrow.Author.Needs.{needs}
 use Rattle.shrink.proofs.same.same_row.Statement.{statement}

@@ -1,11 +1,11 @@
-use mathlib.Core.Path.{_≡_, refl, sym, ap, _∙_}
-use Prim.Native.Nat.{ℕ, _+_, _-_, _/_, _<_, _≤_}
+use mathlib.Core.Path.{_≡_, sym, _∙_}
+use Prim.Native.Nat.{_-_, _/_}
 use native.Mathlib.Omega.{arith}
 use lib.ListN.{length}
 use borrow.Author.Tests.{not-true, not-false}
 use Rattle.paper.specs.Shrink.{same-rows}
 use Rattle.shrink.specs.Faces.{mark-in, rows-alike}
-use Rattle.shrink.proofs.Begins.{Standing, Walk, walk-begins, stand-next, leaves-yes}
+use Rattle.shrink.proofs.Begins.{Standing, walk-begins, stand-next, leaves-yes}
 use Rattle.shrink.proofs.Alike.{left, alike-start, alike-next, alike-differ, alike-short, alike-end}
 use borrow.Author.Needs.{needs}
 use Rattle.shrink.proofs.same.same_rows.Statement.{statement}

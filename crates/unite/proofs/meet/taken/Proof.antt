@@ -33,7 +33,8 @@ enum-known-m c = search needs
 returns : tie.Need-returns
 returns c =
     let s = c .before .before .before in
-    intake-taken (s .args .mode) (uncoded (s .args .p)) (uncoded (s .args .q)) (c .enum-told .given .1) (c .before .before .agree .result)
+    intake-taken (s .args .mode) (uncoded (s .args .p)) (uncoded (s .args .q)) (c .enum-told .given .1)
+        (c .before .before .agree .result)
       (c .before .before .agree .ensures)
 
 -- src/meet.rt:34:1
@@ -42,7 +43,8 @@ returns-2 c =
     let m = c .before .before in
     let s = m .before .before .before in
     let h = rw (c .enum-told3 .given .1) at (m .before .before .agree .ensures) in
-    (s .pre .1, archive-taken (s .args .mode) (uncoded (s .args .p)) (uncoded (s .args .q)) (m .enum-told2 .given .1) _ (h .1))
+    (s .pre .1, archive-taken (s .args .mode) (uncoded (s .args .p)) (uncoded (s .args .q)) (m .enum-told2 .given .1)
+        _ (h .1))
 
 -- src/meet.rt:34:1
 returns-3 : tie.Need-returns-3

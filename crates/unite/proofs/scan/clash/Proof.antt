@@ -104,8 +104,10 @@ returns c =
     let l = loop-of t in
     let s = l .before in
     let a = s .args in
-    scan-clashes (a .mode) (rows-in (a .a .now)) (a .b .now) (l .loop .map) (l .loop .i) (l .loop .inv) (s .pre .0 .tree)
-      (few-rows (a .a .now) (s .pre .0)) (s .pre .1) (in-loop t .loop-test .taken) _ _ (came t _ (c .before .found .given .1))
+    scan-clashes (a .mode) (rows-in (a .a .now)) (a .b .now) (l .loop .map) (l .loop .i) (l .loop .inv)
+        (s .pre .0 .tree)
+      (few-rows (a .a .now) (s .pre .0)) (s .pre .1) (in-loop t .loop-test .taken) _ _
+          (came t _ (c .before .found .given .1))
 
 -- src/scan.rt:69:25
 enum-known-found-2 : tie.Need-enum-known-found-2 Inv-loop μ-loop
@@ -140,14 +142,16 @@ loop-again c =
     let a = s .args in
     rw (c .to-at .ensures .is)
       (scan-on (a .mode) (rows-in (a .a .now)) (a .b .now) (l .loop .map) (l .loop .i) (l .loop .inv) (s .pre .0 .tree)
-        (few-rows (a .a .now) (s .pre .0)) (s .pre .1) (in-loop t .loop-test .taken) _ (came t _ (c .before .before .found2 .given .1)))
+        (few-rows (a .a .now) (s .pre .0)) (s .pre .1) (in-loop t .loop-test .taken) _
+            (came t _ (c .before .before .found2 .given .1)))
 
 -- src/scan.rt:58:1
 returns-2 : tie.Need-returns-2 Inv-loop μ-loop
 returns-2 c =
     let l = c .before in
     let a = l .before .args in
-    scan-ends (a .mode) (rows-in (a .a .now)) (a .b .now) (l .loop .map) (l .loop .i) (l .loop .inv) (c .loop-test .left)
+    scan-ends (a .mode) (rows-in (a .a .now)) (a .b .now) (l .loop .map) (l .loop .i) (l .loop .inv)
+        (c .loop-test .left)
 
 pub clash-spec : {M : Type 1} → statement M
 clash-spec =

@@ -95,7 +95,8 @@ returns c =
     let s = k .before .before .before .before .before .before .before in
     let a = s .args in
     subst (λ (o : Option Row). Takes (c .before .matched .last .1 .0)
-        (taking (a .mode) (held (a .buf .now) (a .n)) (a .from .0) (a .token .0) (uncoded (a .code)) o) (c .before .matched .result))
+        (taking (a .mode) (held (a .buf .now) (a .n)) (a .from .0) (a .token .0) (uncoded (a .code)) o)
+            (c .before .matched .result))
       (sym (there k .1)) (c .before .matched .ensures (a .from .0) (a .token .0))
 
 -- src/taking.rt:65:1
@@ -109,7 +110,8 @@ returns-2 c =
     let s = k .before .before .before .before .before .before .before in
     let a = s .args in
     subst (λ (o : Option Row). Takes (c .before .added .last .0)
-        (taking (a .mode) (held (a .buf .now) (a .n)) (a .from .0) (a .token .0) (uncoded (a .code)) o) (c .before .added .result))
+        (taking (a .mode) (held (a .buf .now) (a .n)) (a .from .0) (a .token .0) (uncoded (a .code)) o)
+            (c .before .added .result))
       (sym (missed k .0)) (c .before .added .ensures (a .mode))
 
 pub take-row-spec : {M : Type 1} → statement M

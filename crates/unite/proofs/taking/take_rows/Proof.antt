@@ -36,14 +36,16 @@ abbrev μ-loop : tie.MeasureT-loop
 loop-holds : tie.Need-loop-holds Inv-loop μ-loop
 loop-holds c =
     let a = c .args in
-    (refl, begins (a .mode) (a .b .now) (a .buf .now) (a .map .now) (a .count) (c .pre .0) (c .pre .1) (c .pre .2) (c .pre .3))
+    (refl, begins (a .mode) (a .b .now) (a .buf .now) (a .map .now) (a .count) (c .pre .0) (c .pre .1) (c .pre .2)
+        (c .pre .3))
 
 -- the row that is taken, and what comes of it
 fitting : (c : tie.In-loop Inv-loop μ-loop) → let l = c .before in Fit (row-at (l .before .args .b .now) (l .loop .i))
 fitting c =
     let l = c .before in
     let a = l .before .args in
-    row-fit (a .mode) (held (a .buf .now) (a .count)) (a .b .now) (l .loop .buf) (l .loop .map) (l .loop .n) (l .loop .i)
+    row-fit (a .mode) (held (a .buf .now) (a .count)) (a .b .now) (l .loop .buf) (l .loop .map) (l .loop .n)
+        (l .loop .i)
       (l .loop .inv .1) (l .before .pre .2) (omega arith)
 
 abbrev from-of : tie.After-from-at Inv-loop μ-loop → ℕ
@@ -55,7 +57,8 @@ from-row c =
     let l = c .before .before in
     let a = l .before .args in
     ap (λ (z : ℕ). getD (l .loop .map) z 0) (c .from-at .ensures .is)
-    ∙ from-is (a .mode) (held (a .buf .now) (a .count)) (a .b .now) (l .loop .buf) (l .loop .map) (l .loop .n) (l .loop .i)
+    ∙ from-is (a .mode) (held (a .buf .now) (a .count)) (a .b .now) (l .loop .buf) (l .loop .map) (l .loop .n)
+        (l .loop .i)
       (l .loop .inv .1) (l .before .pre .2) (omega arith)
 
 abbrev in-loop : tie.After-take-row Inv-loop μ-loop → tie.In-loop Inv-loop μ-loop
@@ -129,7 +132,8 @@ returns c =
     let t = c .before .before .before .before in
     let l = loop-of t in
     let a = l .before .args in
-    clashes (a .mode) (held (a .buf .now) (a .count)) (a .b .now) (l .loop .buf) (l .loop .map) (l .loop .n) (l .loop .i)
+    clashes (a .mode) (held (a .buf .now) (a .count)) (a .b .now) (l .loop .buf) (l .loop .map) (l .loop .n)
+        (l .loop .i)
       (l .loop .inv .1) (l .before .pre .2) (omega arith) _ _ (came t _ (c .before .took .given .1))
 
 -- src/taking.rt:103:27
@@ -148,7 +152,8 @@ returns-2 c =
     let t = c .before .before .before in
     let l = loop-of t in
     let a = l .before .args in
-    overflows (a .mode) (held (a .buf .now) (a .count)) (a .b .now) (l .loop .buf) (l .loop .map) (l .loop .n) (l .loop .i)
+    overflows (a .mode) (held (a .buf .now) (a .count)) (a .b .now) (l .loop .buf) (l .loop .map) (l .loop .n)
+        (l .loop .i)
       (l .loop .inv .1) (l .before .pre .2) (omega arith) (came t _ (c .enum-told .given .1))
 
 -- src/taking.rt:104:25
@@ -187,7 +192,8 @@ loop-again c =
     let a = l .before .args in
     (t .take-row .kept .1 .0 ∙ l .loop .inv .0,
      rw (c .to-at .ensures .is)
-       (goes-on (a .mode) (held (a .buf .now) (a .count)) (a .b .now) (l .loop .buf) (l .loop .map) (l .loop .n) (l .loop .i)
+       (goes-on (a .mode) (held (a .buf .now) (a .count)) (a .b .now) (l .loop .buf) (l .loop .map) (l .loop .n)
+           (l .loop .i)
          (l .loop .inv .1) (l .before .pre .2) (omega arith) _ _ _ (came t _ (c .before .before .took2 .given .1))))
 
 -- src/taking.rt:85:1
