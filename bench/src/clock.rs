@@ -25,7 +25,16 @@ pub fn each(units: usize, mut work: impl FnMut()) -> f64 {
 
 /// A line of a table: the ratio first, over 1 where ours is faster.
 pub fn line(what: &str, rust: f64, ours: &[f64]) {
+    line_by(what, rust, ours, 0);
+}
+
+/// The same with so many places after the point.
+pub fn line_by(what: &str, rust: f64, ours: &[f64], places: usize) {
     let ratios: Vec<String> = ours.iter().map(|o| format!("{:.1}", rust / o)).collect();
-    let times: Vec<String> = ours.iter().map(|o| format!("{o:.0}")).collect();
-    println!("| {} | {what} | {rust:.0} | {} |", ratios.join(" | "), times.join(" | "));
+    let times: Vec<String> = ours.iter().map(|o| format!("{o:.places$}")).collect();
+    println!(
+        "| {} | {what} | {rust:.places$} | {} |",
+        ratios.join(" | "),
+        times.join(" | ")
+    );
 }

@@ -1,49 +1,88 @@
 //! The proved calls, as the static library has them.
 use oracle::Lent;
 
+#[rustfmt::skip]
 unsafe extern "C" {
-    fn lookahead_predict(
-        mode: u32,
-        prod0: i32,
-        k: usize,
-        rows: *const i32,
-        rows_len: usize,
-        stream: usize,
-        tokens: *const u16,
-        tokens_len: usize,
-        answer: *mut u64,
-    ) -> usize;
-    fn lookahead_predict_checked(
-        mode: u32,
-        prod0: i32,
-        k: usize,
-        rows: *const i32,
-        rows_len: usize,
-        stream: usize,
-        tokens: *const u16,
-        tokens_len: usize,
-        answer: *mut u64,
-    ) -> usize;
-    fn lookahead_windows(
-        mode: u32,
-        prod0: i32,
-        k: usize,
-        rows: *const i32,
-        rows_len: usize,
-        tokens: *const u16,
-        tokens_len: usize,
-        answers: *mut u32,
-        answers_len: usize,
-    );
+    fn lookahead_build(production: i32, tokens: *const u16, tokens_len: usize, lengths: *const usize,
+        lengths_len: usize, out: *mut i32, out_len: usize, answer: *mut u64) -> usize;
+    fn lookahead_unite(mode: u32, prod0a: i32, ka: usize, a: *const i32, a_len: usize, prod0b: i32, kb: usize,
+        b: *const i32, b_len: usize, out: *mut i32, out_len: usize, answer: *mut u64) -> usize;
+    fn lookahead_shrink(mode: u32, prod0: i32, k: usize, rows: *const i32, rows_len: usize, out: *mut i32,
+        out_len: usize, answer: *mut u64) -> usize;
+    fn lookahead_predict(mode: u32, prod0: i32, k: usize, rows: *const i32, rows_len: usize, stream: usize,
+        tokens: *const u16, tokens_len: usize, answer: *mut u64) -> usize;
+    fn lookahead_predict_checked(mode: u32, prod0: i32, k: usize, rows: *const i32, rows_len: usize, stream: usize,
+        tokens: *const u16, tokens_len: usize, answer: *mut u64) -> usize;
+    fn lookahead_windows(mode: u32, prod0: i32, k: usize, rows: *const i32, rows_len: usize, tokens: *const u16,
+        tokens_len: usize, answers: *mut u32, answers_len: usize);
+    fn lookahead_explain(prod0: i32, k: usize, rows: *const i32, rows_len: usize, tokens: *const u16,
+        tokens_len: usize, answer: *mut u64) -> usize;
+    fn lookahead_text_in(text: *const u8, text_len: usize, out: *mut i32, out_len: usize, answer: *mut u64) -> usize;
+    fn lookahead_text_out(prod0: i32, k: usize, rows: *const i32, rows_len: usize, out: *mut u8, out_len: usize,
+        answer: *mut u64) -> usize;
 }
 
 /// The refusal's number (0: accepted) and the values.
 pub type Answer = (usize, [u64; 4]);
 
-pub fn predict(mode: u32, t: Lent, stream: usize, tokens: &[u16]) -> Answer {
+fn asked(call: impl FnOnce(*mut u64) -> usize) -> Answer {
     let mut answer = [0; 4];
-    // SAFETY: the call reads the two slices and writes the four numbers of the answer.
-    let number = unsafe {
+    (call(answer.as_mut_ptr()), answer)
+}
+
+// SAFETY of all calls below: each reads the lent slices and writes its output slice and the four numbers of the answer.
+
+pub fn build(production: i32, tokens: &[u16], lengths: &[usize], out: &mut [i32]) -> Answer {
+    asked(|answer| unsafe {
+        lookahead_build(
+            production,
+            tokens.as_ptr(),
+            tokens.len(),
+            lengths.as_ptr(),
+            lengths.len(),
+            out.as_mut_ptr(),
+            out.len(),
+            answer,
+        )
+    })
+}
+
+pub fn unite(mode: u32, a: Lent, b: Lent, out: &mut [i32]) -> Answer {
+    asked(|answer| unsafe {
+        lookahead_unite(
+            mode,
+            a.prod0,
+            a.k,
+            a.rows.as_ptr(),
+            a.rows.len(),
+            b.prod0,
+            b.k,
+            b.rows.as_ptr(),
+            b.rows.len(),
+            out.as_mut_ptr(),
+            out.len(),
+            answer,
+        )
+    })
+}
+
+pub fn shrink(mode: u32, t: Lent, out: &mut [i32]) -> Answer {
+    asked(|answer| unsafe {
+        lookahead_shrink(
+            mode,
+            t.prod0,
+            t.k,
+            t.rows.as_ptr(),
+            t.rows.len(),
+            out.as_mut_ptr(),
+            out.len(),
+            answer,
+        )
+    })
+}
+
+pub fn predict(mode: u32, t: Lent, stream: usize, tokens: &[u16]) -> Answer {
+    asked(|answer| unsafe {
         lookahead_predict(
             mode,
             t.prod0,
@@ -53,18 +92,15 @@ pub fn predict(mode: u32, t: Lent, stream: usize, tokens: &[u16]) -> Answer {
             stream,
             tokens.as_ptr(),
             tokens.len(),
-            answer.as_mut_ptr(),
+            answer,
         )
-    };
-    (number, answer)
+    })
 }
 
 /// # Safety
 /// The table has passed the checks 1 to 3: `predict` did not refuse it by 1, 2 or 3.
 pub unsafe fn predict_checked(mode: u32, t: Lent, stream: usize, tokens: &[u16]) -> Answer {
-    let mut answer = [0; 4];
-    // SAFETY: as above, and the caller has seen the table pass.
-    let number = unsafe {
+    asked(|answer| unsafe {
         lookahead_predict_checked(
             mode,
             t.prod0,
@@ -74,10 +110,9 @@ pub unsafe fn predict_checked(mode: u32, t: Lent, stream: usize, tokens: &[u16])
             stream,
             tokens.as_ptr(),
             tokens.len(),
-            answer.as_mut_ptr(),
+            answer,
         )
-    };
-    (number, answer)
+    })
 }
 
 /// Windows of k tokens one after the other.
@@ -85,7 +120,6 @@ pub unsafe fn predict_checked(mode: u32, t: Lent, stream: usize, tokens: &[u16])
 /// # Safety
 /// As for `predict_checked`.
 pub unsafe fn windows(mode: u32, t: Lent, tokens: &[u16], answers: &mut [u32]) {
-    // SAFETY: the call reads the two slices and writes the answers; the caller has seen the table pass.
     unsafe {
         lookahead_windows(
             mode,
@@ -99,4 +133,44 @@ pub unsafe fn windows(mode: u32, t: Lent, tokens: &[u16], answers: &mut [u32]) {
             answers.len(),
         )
     }
+}
+
+pub fn explain(t: Lent, tokens: &[u16]) -> Answer {
+    asked(|answer| unsafe {
+        lookahead_explain(
+            t.prod0,
+            t.k,
+            t.rows.as_ptr(),
+            t.rows.len(),
+            tokens.as_ptr(),
+            tokens.len(),
+            answer,
+        )
+    })
+}
+
+pub fn text_in(text: &[u8], out: &mut [i32]) -> Answer {
+    asked(|answer| unsafe {
+        lookahead_text_in(
+            text.as_ptr(),
+            text.len(),
+            out.as_mut_ptr(),
+            out.len(),
+            answer,
+        )
+    })
+}
+
+pub fn text_out(t: Lent, out: &mut [u8]) -> Answer {
+    asked(|answer| unsafe {
+        lookahead_text_out(
+            t.prod0,
+            t.k,
+            t.rows.as_ptr(),
+            t.rows.len(),
+            out.as_mut_ptr(),
+            out.len(),
+            answer,
+        )
+    })
 }

@@ -40,14 +40,38 @@ fn window(dice: &mut Dice, t: &Table) -> Vec<u16> {
 
 pub fn run() {
     println!("\n## predict, nanoseconds a call\n");
-    println!("| ratio, walk | ratio, checked call | ratio, public call | rows, k | the Rust's eval | walk | checked call | public call |");
+    println!(
+        "| ratio, walk | ratio, checked call | ratio, public call | rows, k | the Rust's eval | walk | checked call | public call |"
+    );
     println!("|---|---|---|---|---|---|---|---|");
     let mut dice = Dice::new(7);
-    for (rows, k) in [(2, 1), (5, 1), (10, 1), (10, 2), (20, 2), (30, 3), (100, 1), (100, 4), (100, 16), (500, 4), (500, 16), (1000, 1), (1000, 4), (1000, 16)] {
+    for (rows, k) in [
+        (2, 1),
+        (5, 1),
+        (10, 1),
+        (10, 2),
+        (20, 2),
+        (30, 3),
+        (100, 1),
+        (100, 4),
+        (100, 16),
+        (500, 4),
+        (500, 16),
+        (1000, 1),
+        (1000, 4),
+        (1000, 16),
+    ] {
         let t = table(&mut dice, rows, k);
-        let lent = Lent { prod0: t.prod0, k: t.k, rows: &t.rows };
+        let lent = Lent {
+            prod0: t.prod0,
+            k: t.k,
+            rows: &t.rows,
+        };
         let windows: Vec<Vec<u16>> = (0..64).map(|_| window(&mut dice, &t)).collect();
-        assert!(!matches!(ours::predict(0, lent, k, &windows[0]).0, 1 | 2 | 3));
+        assert!(!matches!(
+            ours::predict(0, lent, k, &windows[0]).0,
+            1 | 2 | 3
+        ));
         let walker = Walker::new(lent);
         let mut streams: Vec<_> = windows.iter().map(|w| TokenStream::lent(w, k)).collect();
         let rust = clock::each(64, || {
@@ -69,6 +93,40 @@ pub fn run() {
                 black_box(ours::predict(0, lent, k, w));
             }
         });
-        clock::line(&format!("{rows} rows, k {k}"), rust, &[walk, single, public]);
+        clock::line(
+            &format!("{rows} rows, k {k}"),
+            rust,
+            &[walk, single, public],
+        );
+    }
+}
+
+pub fn explain() {
+    println!("\n## explain (both calls, with their checks), nanoseconds a call\n");
+    println!("| ratio | rows, k | the Rust's build_error | ours |");
+    println!("|---|---|---|---|");
+    let mut dice = Dice::new(8);
+    for (rows, k) in [(5, 2), (30, 3), (100, 4), (500, 8), (1000, 16)] {
+        let t = table(&mut dice, rows, k);
+        let lent = Lent {
+            prod0: t.prod0,
+            k: t.k,
+            rows: &t.rows,
+        };
+        let windows: Vec<Vec<u16>> = (0..64).map(|_| window(&mut dice, &t)).collect();
+        let walker = Walker::new(lent);
+        let streams: Vec<_> = windows.iter().map(|w| TokenStream::lent(w, k)).collect();
+        let names = parol_runtime::lexer::terminal_names();
+        let rust = clock::each(64, || {
+            for s in &streams {
+                let _ = black_box(walker.0.build_error(names, s));
+            }
+        });
+        let mine = clock::each(64, || {
+            for w in &windows {
+                black_box(ours::explain(lent, w));
+            }
+        });
+        clock::line(&format!("{rows} rows, k {k}"), rust, &[mine]);
     }
 }

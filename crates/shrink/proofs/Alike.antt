@@ -2,7 +2,6 @@
 -- Assumes walks that stand at rows of their states.
 use mathlib.Core.Path.{_≡_, sym, ap, _∙_}
 use mathlib.Core.Bool.{Bool, true, false, not, _&&_}
-use mathlib.Core.Option.{Option}
 use mathlib.Core.List.{List, [], _∷_}
 use Prim.Native.Nat.{ℕ, _+_, _*_, _%_, _<_}
 use native.Mathlib.Omega.{arith}
@@ -13,7 +12,7 @@ use Rattle.paper.specs.Rows.{Table, rows-in}
 use Rattle.paper.specs.Checks.{same-production}
 use Rattle.paper.specs.Shrink.{rows-of, redirect, same-rows}
 use Rattle.rows.specs.Places.{row-at, rest, code, uncoded}
-use Rattle.ruled.proofs.Splits.{code-same, same-path}
+use Rattle.ruled.proofs.Splits.{code-same}
 use Rattle.merging.specs.Marks.{compared}
 use Rattle.shrink.specs.Index.{leaves}
 use Rattle.shrink.specs.Faces.{coded, counted, like, hash, sign, same-row, rows-alike, production-at}
@@ -84,9 +83,6 @@ module _ (ns : List ℤ) (mark : ℕ → ℕ) where
     alike-end e false f = rw (left-end a i v e, left-end b j w (sym f))
 
 -- ---- states
-
-same-codes : (x y : ℕ) (p q : Option ℕ) → x ≡ code p → y ≡ code q → x ≡ y → p ≡ q
-same-codes x y p q e f g = same-path p q (sym (code-same p q) ∙ eq-eqb (code p) (code q) (sym e ∙ g ∙ f))
 
 module _ (mode : Mode) (p0 : ℕ) (ns : List ℤ) (mark : ℕ → ℕ) where
   abbrev t : Table

@@ -59,7 +59,7 @@ module _ (ns : List ℤ) (i s : ℕ) where
   unfolding rows-of
   rows-cons h = ap (λ (rs : List Row). rows-of rs s) (rest-cons ns i h)
 
-  pub rows-here : i * 4 + 3 < length ns → row-at ns i .from ≡ s
+  rows-here : i * 4 + 3 < length ns → row-at ns i .from ≡ s
       → rows-of (rest ns i) s ≡ (row-at ns i .terminal, row-at ns i .to) ∷ rows-of (rest ns (i + 1)) s
   rows-here h e = rows-cons h ∙ rw (eq-eqb (row-at ns i .from) s e)
 

@@ -33,13 +33,13 @@ module _ (ns : List ℤ) (into : List ℕ) (m : Marked ns into) (s j : ℕ) (l :
   leads-as : eqb j 0 ≡ not (any (leads s) (rows-in ns))
   leads-as = ap (λ (x : ℕ). eqb x 0) (e ∙ m .held s l) ∙ into-any ns s
 
-  pub entered-state : (j ≡ 0 → ⊥) → In s (states (rows-in ns))
+  entered-state : (j ≡ 0 → ⊥) → In s (states (rows-in ns))
   entered-state z =
       let h = any-some (leads s) (rows-in ns) (not-false _ (sym leads-as ∙ ne-eqb j 0 z)) in
       subst (λ (x : ℕ). In x (states (rows-in ns))) (eqb-true (h .0 .to) s (h .2))
       (to-state (rows-in ns) (h .0) (h .1))
 
-  pub entered-only : j ≡ 0 → (s ≡ 0 → ⊥) → In s (states (rows-in ns)) → ⊥
+  entered-only : j ≡ 0 → (s ≡ 0 → ⊥) → In s (states (rows-in ns)) → ⊥
   entered-only z d i = ⊎-elim d
       (λ k.
       let a = any-true (leads s) (rows-in ns) (k .0) (k .1) (eq-eqb (k .0 .to) s (k .2)) in

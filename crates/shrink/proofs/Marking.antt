@@ -12,6 +12,7 @@ use Rattle.merging.specs.Marks.{compared, source-of, Alike, Marks}
 use Rattle.merging.proofs.OnePass.{source-is-mark}
 use Rattle.shrink.specs.Faces.{mark-in, production-at, counted}
 use Rattle.shrink.specs.Classes.{State, Like, Settled, Classes}
+use Rattle.shrink.proofs.Settling.{like-sym}
 
 module _ (mode : Mode) (t : Table) (mark : ℕ → ℕ) where
   rows-where : (s : ℕ) → compared mode (production-at t s) ≡ true
@@ -37,22 +38,19 @@ module _ (mode : Mode) (t : Table) (mark : ℕ → ℕ) where
         (λ e. rows-nowhere a e ∙ sym (rows-nowhere b (ap (compared mode) (sym (w .production)) ∙ e)));
   }
 
-  like-sym : (a b : ℕ) → Like mode t mark a b → Like mode t mark b a
-  like-sym a b w = record { production = sym (w .production); rows = sym (w .rows) }
-
   like-on : (a b c : ℕ) → Like mode t mark a b → Like mode t mark b c → Like mode t mark a c
   like-on a b c v w = record { production = v .production ∙ w .production; rows = v .rows ∙ w .rows }
 
-  pub settled-marks : Settled mode t mark (State t) → Marks mode t mark
+  settled-marks : Settled mode t mark (State t) → Marks mode t mark
   settled-marks S = record {
     one = λ a b i j e. like-alike a b
         (like-on a (mark a) b (S .alike a i)
-        (rw (← e) at (like-sym b (mark b) (S .alike b j))));
+        (rw (← e) at (like-sym mode t mark b (mark b) (S .alike b j))));
     two = λ a b i j w.
         let p = S .kept a i in
         let q = S .kept b j in
         S .unlike (mark a) (mark b) (p .0) (q .0) (p .1) (q .1)
-        (like-on (mark a) a (mark b) (like-sym a (mark a) (S .alike a i))
+        (like-on (mark a) a (mark b) (like-sym mode t mark a (mark a) (S .alike a i))
         (like-on a b (mark b) (alike-like a b w) (S .alike b j)));
   }
 

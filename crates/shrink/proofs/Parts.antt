@@ -47,7 +47,7 @@ pub shape-rows : (p q : Option ℕ) (k l : ℕ) (rs : List Row)
 unfolding shape
 shape-rows p q k l rs e = e
 
-pub split-rows : (p q : Option ℕ) (k l : ℕ) (rs : List Row)
+split-rows : (p q : Option ℕ) (k l : ℕ) (rs : List Row)
     → split (record { prod0 = p; k = k; rows = rs }) ≡ false → split (record { prod0 = q; k = l; rows = rs }) ≡ false
 unfolding split
 split-rows p q k l rs e = e

@@ -18,7 +18,7 @@ use Rattle.ruled.specs.Into.{into-from, Marked}
 use Rattle.ruled.proofs.Firsts.{First, into-row}
 use Rattle.merging.specs.Marks.{compared}
 
-pub code-uncoded : (p : ℕ) → code (uncoded p) ≡ p
+code-uncoded : (p : ℕ) → code (uncoded p) ≡ p
 code-uncoded zero = refl
 code-uncoded (suc p) = refl
 

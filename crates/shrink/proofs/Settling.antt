@@ -24,12 +24,12 @@ counted-agree mode t C D u h =
     (same-redirect D C (rows-of (t .rows) u) h)
 
 module _ (mode : Mode) (t : Table) where
-  like-sym : (C : ℕ → ℕ) (u v : ℕ) → Like mode t C u v → Like mode t C v u
+  pub like-sym : (C : ℕ → ℕ) (u v : ℕ) → Like mode t C u v → Like mode t C v u
   like-sym C u v e = record { production = sym (e .production); rows = sym (e .rows) }
 
   module _ (C D : ℕ → ℕ) (done : ℕ → Type 0) (s : ℕ) (S : Settled mode t C done)
       (ready : (o : ℕ × ℕ) → In o (rows-of (t .rows) s) → done (o .1)) (agree : (u : ℕ) → done u → D u ≡ C u) where
-    abbrev pub done′ : ℕ → Type 0
+    abbrev done′ : ℕ → Type 0
     done′ u = done u ⊎ (s ≡ u)
 
     targets : (u : ℕ) → done′ u → (o : ℕ × ℕ) → In o (rows-of (t .rows) u) → done (o .1)

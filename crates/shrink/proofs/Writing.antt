@@ -27,7 +27,7 @@ written-none old at = record {
 }
 
 -- the four numbers of a row, set one after the other
-abbrev pub four : List ℤ → ℕ → ℤ → ℤ → ℤ → ℤ → List ℤ
+abbrev four : List ℤ → ℕ → ℤ → ℤ → ℤ → ℤ → List ℤ
 four l i a b c d = set (set (set (set l i a) (i + 1) b) (i + 2) c) (i + 3) d
 
 four-is : (l : List ℤ) (i : ℕ) (a b c d : ℤ) → i + 4 ≤ length l
@@ -39,7 +39,7 @@ four-is l i a b c d h =
     rw (e₁, e₂, e₃)
     (sets-eq (a ∷ b ∷ c ∷ d ∷ []) l i h ∙ append-assoc (take i l) (a ∷ b ∷ c ∷ d ∷ []) (drop (i + 4) l))
 
-pub written-one : (old new : List ℤ) (at : ℕ) (r : Row) → at * 4 + 4 ≤ length old
+written-one : (old new : List ℤ) (at : ℕ) (r : Row) → at * 4 + 4 ≤ length old
     → new ≡ four old (at * 4) (pos (r .from)) (pos (r .terminal)) (pos (r .to)) (signed (r .production))
     → Written old new at (at + 1) (r ∷ [])
 written-one old new at r h e =

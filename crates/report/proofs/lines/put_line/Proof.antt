@@ -1,38 +1,37 @@
+-- `report::lines::put_line` meets its contract. Three writings, each from where the one before it ends. Assumes nothing.
+use native.Mathlib.Omega.{arith}
+use Rattle.text.proofs.Written.{puts-on, puts-as}
+use Rattle.report.proofs.Parts.{line-parts}
 use borrow.Author.Needs.{needs}
 use Rattle.report.proofs.lines.put_line.Statement.{statement}
 use Rattle.report.proofs.lines.put_line.Tie as tie
-use Rattle.report.proofs.lines.put_line.Reads as reads
-use Rattle.report.proofs.lines.put_line.Lts as lts
-use Rattle.report.proofs.writing.put_field.Reads as put-field-reads
-use Rattle.report.proofs.writing.put_word.Reads as put-word-reads
 
--- src/lines.rt:24:9
 put-field-requires : tie.Need-put-field-requires
 put-field-requires c κs = search needs
 
--- src/lines.rt:25:40
 slice-aggregate-put-field : tie.Need-slice-aggregate-put-field
 slice-aggregate-put-field c = search needs
 
--- src/lines.rt:25:9
 put-field-requires-2 : tie.Need-put-field-requires-2
 put-field-requires-2 c κs = search needs
 
--- src/lines.rt:26:31
 slice-aggregate-put-word : tie.Need-slice-aggregate-put-word
 slice-aggregate-put-word c = search needs
 
--- src/lines.rt:26:5
 put-word-requires : tie.Need-put-word-requires
 put-word-requires c κs = search needs
 
--- src/lines.rt:19:1
 same-length : tie.Need-same-length
 same-length c = search needs
 
--- src/lines.rt:19:1
 returns : tie.Need-returns
-returns c = ?
+returns c =
+    let w = c .before .before in
+    let g = w .before .before .before .before .before in
+    let f = g .before .before .before .before .before in
+    let two = puts-on (f .put-field .ensures) (omega arith) (g .put-field2 .ensures) in
+    let three = puts-on two (omega arith) (w .put-word .ensures) in
+    puts-as three (line-parts _ _ _)
 
 pub put-line-spec : {M : Type 1} → statement M
 put-line-spec =

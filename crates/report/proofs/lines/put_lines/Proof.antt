@@ -1,41 +1,40 @@
+-- `report::lines::put_lines` meets its contract. Three lines, each from where the one before it ends. Assumes nothing.
+use native.Mathlib.Omega.{arith}
+use Rattle.text.proofs.Written.{puts-on, puts-as}
+use Rattle.report.proofs.Parts.{three-parts}
 use borrow.Author.Needs.{needs}
 use Rattle.report.proofs.lines.put_lines.Statement.{statement}
 use Rattle.report.proofs.lines.put_lines.Tie as tie
-use Rattle.report.proofs.lines.put_lines.Reads as reads
-use Rattle.report.proofs.lines.put_lines.Lts as lts
-use Rattle.report.proofs.lines.put_line.Reads as put-line-reads
 
--- src/lines.rt:34:30
 slice-aggregate-put-line : tie.Need-slice-aggregate-put-line
 slice-aggregate-put-line c = search needs
 
--- src/lines.rt:34:9
 put-line-requires : tie.Need-put-line-requires
 put-line-requires c κs = search needs
 
--- src/lines.rt:35:30
 slice-aggregate-put-line-2 : tie.Need-slice-aggregate-put-line-2
 slice-aggregate-put-line-2 c = search needs
 
--- src/lines.rt:35:9
 put-line-requires-2 : tie.Need-put-line-requires-2
 put-line-requires-2 c κs = search needs
 
--- src/lines.rt:36:22
 slice-aggregate-put-line-3 : tie.Need-slice-aggregate-put-line-3
 slice-aggregate-put-line-3 c = search needs
 
--- src/lines.rt:36:5
 put-line-requires-3 : tie.Need-put-line-requires-3
 put-line-requires-3 c κs = search needs
 
--- src/lines.rt:30:1
 same-length : tie.Need-same-length
 same-length c = search needs
 
--- src/lines.rt:30:1
 returns : tie.Need-returns
-returns c = ?
+returns c =
+    let i = c .before .before in
+    let a = i .before .before .before .before .before in
+    let t = a .before .before .before .before .before in
+    let two = puts-on (t .put-line .ensures) (omega arith) (a .put-line2 .ensures) in
+    let all = puts-on two (omega arith) (i .put-line3 .ensures) in
+    puts-as all (three-parts _ _ _)
 
 pub put-lines-spec : {M : Type 1} → statement M
 put-lines-spec =

@@ -1,0 +1,221 @@
+//! Build, unite and shrink, beside the Rust.
+use crate::{clock, ours};
+use oracle::make::{self, Dice, Strings};
+use oracle::rust::{flat, ruled};
+use oracle::{Lent, Table};
+use parol::KTuples;
+use parol::analysis::LookaheadDFA;
+use parol::door::Compiled;
+use std::hint::black_box;
+
+fn lent(t: &Table) -> Lent<'_> {
+    Lent {
+        prod0: t.prod0,
+        k: t.k,
+        rows: &t.rows,
+    }
+}
+
+fn strings(list: &Strings) -> Vec<&[u16]> {
+    let mut rest = &list.tokens[..];
+    list.lengths
+        .iter()
+        .map(|&n| {
+            let (one, left) = rest.split_at(n);
+            rest = left;
+            one
+        })
+        .collect()
+}
+
+/// Random strings until the tree has about so many states.
+fn random_list(dice: &mut Dice, states: usize) -> Strings {
+    let mut list = Strings::default();
+    let mut count = 1;
+    while count < states && list.lengths.len() < 1024 {
+        let n = dice.within(1, 8).min(states - count);
+        let string: Vec<u16> = (0..n).map(|_| 5 + dice.below(9) as u16).collect();
+        list.push(&string);
+        count = oracle::rust::build(1, &strings(&list)).states;
+    }
+    list
+}
+
+/// Strings of 16 with no first token in common.
+fn long_list(states: usize) -> Strings {
+    let mut list = Strings::default();
+    let mut left = states - 1;
+    let mut first = 1;
+    while left > 0 {
+        let n = left.min(16);
+        let string: Vec<u16> = (0..n).map(|i| if i == 0 { first } else { 7 }).collect();
+        list.push(&string);
+        first += 1;
+        left -= n;
+    }
+    list
+}
+
+fn single_list(states: usize, falling: bool) -> Strings {
+    let mut list = Strings::default();
+    for i in 1..states.min(1024) as u16 {
+        list.push(&[if falling { 2000 - i } else { i }]);
+    }
+    list
+}
+
+pub fn build() {
+    println!("\n## build, nanoseconds a call\n");
+    println!("| ratio | list | the Rust | ours |");
+    println!("|---|---|---|---|");
+    let mut dice = Dice::new(3);
+    let mut out = vec![0; 16384];
+    for states in [10, 100, 1000] {
+        let shapes = [
+            ("random strings", random_list(&mut dice, states)),
+            ("strings of 16", long_list(states)),
+            ("single tokens that rise", single_list(states, false)),
+            ("single tokens that fall", single_list(states, true)),
+        ];
+        for (name, list) in shapes {
+            let tuples = KTuples::of(&strings(&list));
+            let rust = clock::each(1, || {
+                black_box(LookaheadDFA::from_k_tuples(&tuples, 1));
+            });
+            let mine = clock::each(1, || {
+                black_box(ours::build(1, &list.tokens, &list.lengths, &mut out));
+            });
+            clock::line(&format!("{name}, {states} states"), rust, &[mine]);
+        }
+    }
+}
+
+pub fn unite() {
+    println!("\n## unite, archive, nanoseconds a call (the Rust clones the first)\n");
+    println!("| ratio | trees | the Rust | ours |");
+    println!("|---|---|---|---|");
+    let mut dice = Dice::new(4);
+    let mut out = vec![0; 16384];
+    for states in [10, 100, 1000] {
+        let half = states / 2 + 1;
+        let a = flat(&LookaheadDFA::from_k_tuples(
+            &KTuples::of(&strings(&random_list(&mut dice, half))),
+            1,
+        ));
+        let mut other = random_list(&mut dice, half);
+        other.tokens.iter_mut().for_each(|t| *t += 100);
+        let b = flat(&LookaheadDFA::from_k_tuples(
+            &KTuples::of(&strings(&other)),
+            2,
+        ));
+        let long = flat(&LookaheadDFA::from_k_tuples(
+            &KTuples::of(&strings(&long_list(half))),
+            1,
+        ));
+        let falls = flat(&LookaheadDFA::from_k_tuples(
+            &KTuples::of(&strings(&single_list(half, true))),
+            1,
+        ));
+        let mut low = falls.clone();
+        low.rows.chunks_exact_mut(4).for_each(|r| r[1] -= 950);
+        for (name, x, y) in [
+            ("no state in common", &a, &b),
+            ("a tree with itself", &a, &a),
+            ("strings of 16 with themselves", &long, &long),
+            (
+                "single tokens, the second's all below the first's",
+                &falls,
+                &low,
+            ),
+        ] {
+            let (first, second) = (ruled(lent(x)), ruled(lent(y)));
+            let rust = clock::each(1, || {
+                let _ = black_box(first.union(&second));
+            });
+            let mine = clock::each(1, || {
+                black_box(ours::unite(0, lent(x), lent(y), &mut out));
+            });
+            clock::line(&format!("{name}, {states} states together"), rust, &[mine]);
+        }
+    }
+}
+
+fn tree(dice: &mut Dice, states: usize, terminals: u16, productions: &[i32]) -> Table {
+    let terminals: Vec<u16> = (5..5 + terminals).collect();
+    let size = make::Size {
+        states,
+        rows: states - 1,
+        terminals: &terminals,
+        productions,
+        gaps: false,
+    };
+    make::tree(dice, &size)
+}
+
+/// A production for each leaf, none elsewhere.
+fn leaves(mut t: Table, production: impl Fn(i32) -> i32) -> Table {
+    let froms: std::collections::BTreeSet<i32> = t.rows.chunks_exact(4).map(|r| r[0]).collect();
+    for r in t.rows.chunks_exact_mut(4) {
+        r[3] = if froms.contains(&r[2]) {
+            -1
+        } else {
+            production(r[2])
+        };
+    }
+    t.prod0 = -1;
+    t
+}
+
+pub fn shrink() {
+    println!("\n## shrink, nanoseconds a call\n");
+    println!("| ratio, archive | ratio, intake | tree | the Rust | archive | intake |");
+    println!("|---|---|---|---|---|---|");
+    let mut dice = Dice::new(5);
+    let mut out = vec![0; 16384];
+    for states in [100, 500, 1000] {
+        let trie = tree(&mut dice, states, 40, &[1]);
+        let narrow = tree(&mut dice, states, 2, &[1]);
+        let comb = flat(&LookaheadDFA::from_k_tuples(
+            &KTuples::of(&strings(&long_list(states))),
+            1,
+        ));
+        let star = flat(&LookaheadDFA::from_k_tuples(
+            &KTuples::of(&strings(&single_list(states, false))),
+            1,
+        ));
+        let mut all = trie.clone();
+        all.rows.chunks_exact_mut(4).for_each(|r| r[3] = r[2]);
+        for (name, t) in [
+            (
+                "random trie, 8 productions at leaves",
+                leaves(trie.clone(), |s| s % 8),
+            ),
+            (
+                "random trie, all leaves one production",
+                leaves(trie.clone(), |_| 1),
+            ),
+            (
+                "random trie, every leaf its own production",
+                leaves(trie.clone(), |s| s),
+            ),
+            ("every state accepts, its own production", all),
+            (
+                "over 2 terminals, leaves one production",
+                leaves(narrow, |_| 1),
+            ),
+            ("star, one production", star),
+            ("comb of strings of 16, one production", comb),
+        ] {
+            let dfa = ruled(lent(&t));
+            let rust = clock::each(1, || {
+                black_box(Compiled::from_lookahead_dfa(&dfa));
+            });
+            let mine = [0, 1].map(|mode| {
+                clock::each(1, || {
+                    black_box(ours::shrink(mode, lent(&t), &mut out));
+                })
+            });
+            clock::line(&format!("{name}, {states} states"), rust, &mine);
+        }
+    }
+}
