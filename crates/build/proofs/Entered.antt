@@ -63,8 +63,12 @@ module _ (buf : List ℤ) (n s t : ℕ) where
   pub overflows : (i : ℕ) → Missed buf n i s t → 1023 ≤ n → 1023 < length (enter rs s t (find rs s t) .rows)
   overflows i m h =
       let e : length rs ≡ n = held-length buf n (room buf n (m .laid)) in
-      omega (arith, ap (λ (w : Standing). length (w .rows)) (new-rows (m .new)), length-insert
-          (next (length rs) s t 0) rs)
+      omega (
+        arith,
+        ap (λ (w : Standing). length (w .rows)) (new-rows (m .new)),
+        length-insert
+            (next (length rs) s t 0) rs,
+      )
 
   pub adding : (i : ℕ) → t ≤ 65535 → Missed buf n i s t → n < 1023 → Adding buf n i s t 0
   adding i k m h = record {

@@ -88,8 +88,11 @@ walk-tree w σ e tr = built.walked none σ w [] (record { state = 0; production 
 
 module _ (buf : List ℤ) (n s at q : ℕ) (l : Laid buf n) (tr : Tree (held buf n)) (d : Leads buf n s at) where
   pub mark-root : at ≡ 0 → Marked buf buf n s q
-  mark-root e = record { laid = l; rows = sym (ap (λ (z : ℕ). map (paint z (some q)) (held buf n)) (d .root e)
-      ∙ paint-root (some q) (held buf n) tr) }
+  mark-root e = record {
+    laid = l;
+    rows = sym (ap (λ (z : ℕ). map (paint z (some q)) (held buf n)) (d .root e)
+        ∙ paint-root (some q) (held buf n) tr);
+  }
 
   pub giving : (at ≡ 0 → ⊥) → q ≤ 65535 → Giving buf n (at - 1) (q + 1)
   giving e h = record { laid = l; tree = tr; there = d .there (omega (arith, e)); production = omega arith }

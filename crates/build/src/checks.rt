@@ -1,6 +1,5 @@
 // The checks 1 and 2 of build: each true when it refuses.
 use rows::numbers;
-
 ghost use mathlib.Core.Path.{_≡_};
 ghost use lib.Dec.{eqb, ltb};
 ghost use lib.ListN.{length};

@@ -2,10 +2,11 @@
 pub mod checks;
 pub mod strings;
 
-use paper::{Making, Production, Refusal};
+use paper::Making;
+use paper::Production;
+use paper::Refusal;
 use rows::numbers;
 use strings::Table;
-
 ghost use mathlib.Core.Path.{_≡_};
 ghost use lib.ListN.{length};
 ghost use Rattle.paper.specs.Answers.{Makes};

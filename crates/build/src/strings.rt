@@ -1,8 +1,9 @@
 // Strings walked into the rows of an array, states added in order of need.
-use paper::{Production, State, Terminal};
+use paper::Production;
+use paper::State;
+use paper::Terminal;
 use rows::numbers;
 use rows::search::Found;
-
 ghost use mathlib.Core.Path.{_≡_};
 ghost use Prim.Native.Nat.{_≤_};
 ghost use lib.ListN.{length};
@@ -23,11 +24,7 @@ pub enum Step {
 
 // A table: how many rows there are, the code of its prod0, and k.
 pub enum Table {
-    Rows {
-        rows: usize,
-        code: usize,
-        k: usize,
-    },
+    Rows { rows: usize, code: usize, k: usize },
     Full,
 }
 

@@ -1,6 +1,6 @@
 // The calls for Rust and C: numbers and slices in, the refusal's number out (0: accepted), values in `answer`.
 ghost use Rattle.predict.specs.Seen.{Sound};
-use paper::{Explanation, Mode, Prediction, Production, Refusal};
+use paper::{Explanation, Making, Mode, Prediction, Production, Reading, Refusal, Writing};
 
 // Mode 0 is archive; any other number is intake.
 fn mode_of(mode: u32) -> Mode {
@@ -127,5 +127,106 @@ pub extern "C" fn lookahead_windows(
         answers[i] = window(mode, prod0, k, rows, &rest[..k]);
         rest = &rest[k..];
         i += 1;
+    }
+}
+
+// The values of a made table: prod0 plus one, k, the row count, the state count.
+fn made(said: Making, answer: &mut [u64; 4]) -> usize {
+    match said {
+        Making::Made {
+            prod0,
+            k,
+            rows,
+            states,
+        } => {
+            answer[0] = rows::numbers::coded(prod0) as u64;
+            answer[1] = k as u64;
+            answer[2] = rows as u64;
+            answer[3] = states as u64;
+            0
+        }
+        Making::Refused(f) => refusal(f, answer),
+    }
+}
+
+// Build: rows at the front of `out`.
+#[no_mangle]
+pub extern "C" fn lookahead_build(
+    production: i32,
+    tokens: &[u16],
+    lengths: &[usize],
+    out: &mut [i32],
+    answer: &mut [u64; 4],
+) -> usize {
+    let said = build::build(production, tokens, lengths, out);
+    made(said, answer)
+}
+
+// Unite: rows at the front of `out`.
+#[no_mangle]
+pub extern "C" fn lookahead_unite(
+    mode: u32,
+    prod0a: i32,
+    ka: usize,
+    a: &[i32],
+    prod0b: i32,
+    kb: usize,
+    b: &[i32],
+    out: &mut [i32],
+    answer: &mut [u64; 4],
+) -> usize {
+    let said = unite::unite(mode_of(mode), prod0a, ka, a, prod0b, kb, b, out);
+    made(said, answer)
+}
+
+// Shrink: rows at the front of `out`.
+#[no_mangle]
+pub extern "C" fn lookahead_shrink(
+    mode: u32,
+    prod0: i32,
+    k: usize,
+    rows: &[i32],
+    out: &mut [i32],
+    answer: &mut [u64; 4],
+) -> usize {
+    let said = shrink::shrink(mode_of(mode), prod0, k, rows, out);
+    made(said, answer)
+}
+
+// Text in: rows at the front of `out`; prod0 plus one, k, the row count.
+#[no_mangle]
+pub extern "C" fn lookahead_text_in(
+    text: &[u8],
+    out: &mut [i32],
+    answer: &mut [u64; 4],
+) -> usize {
+    let said = text::text_in(text, out);
+    match said {
+        Reading::Read { prod0, k, rows } => {
+            answer[0] = rows::numbers::coded(prod0) as u64;
+            answer[1] = k as u64;
+            answer[2] = rows as u64;
+            0
+        }
+        Reading::Refused(f) => refusal(f, answer),
+    }
+}
+
+// Text out: the text at the front of `out`; its length.
+#[no_mangle]
+pub extern "C" fn lookahead_text_out(
+    prod0: i32,
+    k: usize,
+    rows: &[i32],
+    out: &mut [u8],
+    answer: &mut [u64; 4],
+) -> usize {
+    let said = text::text_out(prod0, k, rows, out);
+    match said {
+        Writing::Wrote(n) => {
+            answer[0] = n as u64;
+            0
+        }
+        Writing::Refused(f) => refusal(f, answer),
     }
 }

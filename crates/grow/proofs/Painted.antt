@@ -67,6 +67,7 @@ module _ (D : List Row) (r : Row) (E : List Row) (tr : Tree (D ++ (r ∷ E))) wh
           let z : x ≡ r = same-to (D ++ (r ∷ E)) tr x r (Memᴰ·append-left (r ∷ E) i) there e in
           let k = clear x z in
           not-before-itself x r (before-last D r E (tr .rising) x i) (sym (k .0), sym (k .1))
+
       after : (x : Row) → In x E → x .to ≡ r .to → ⊥
       after x i e =
           let z : x ≡ r = same-to (D ++ (r ∷ E)) tr x r (Memᴰ·append-right D (List·Memᴰ·tail i)) there e in
@@ -106,7 +107,7 @@ module _ (buf : List ℤ) (n i c : ℕ) (g : Giving buf n i c) where
       let h : row-fits y ≡ true = every-in row-fits rs (g .laid .passed .fits) y k in
       let f : Fit y = fit y h in
       ap row-fits (sym e) ∙ fitting (paint (r .to) (uncoded c) y) (f .from) (f .terminal) (f .to)
-          (go (eqb (y .to) (r .to)) y h)
+      (go (eqb (y .to) (r .to)) y h)
     where
       go : (b : Bool) (y : Row) → row-fits y ≡ true → production-fits (cond b (uncoded c) (y .production)) ≡ true
       go true y h = uncoded-fits c (g .production)
@@ -119,14 +120,14 @@ module _ (buf : List ℤ) (n i c : ℕ) (g : Giving buf n i c) where
       let d : i ≡ length (take i rs) = sym (length-take-le i rs (omega (arith, rows-long, g .there))) in
       let w : numbers rs ≡ take (n * 4) buf = written buf n (g .laid) in
       let now : take (n * 4) new ≡ numbers (map (paint (r .to) (uncoded c)) rs) =
-          ap (take (n * 4)) e ∙ take-set-lt (n * 4) buf (i * 4 + 3) (signed (uncoded c)) j
-          ∙ ap (λ (l : List ℤ). set l (i * 4 + 3) (signed (uncoded c))) (sym w ∙ ap numbers cut)
-          ∙ set-one (take i rs) r (drop (suc i) rs) (uncoded c) i d ∙ sym (ap numbers painted-is) in
+      ap (take (n * 4)) e ∙ take-set-lt (n * 4) buf (i * 4 + 3) (signed (uncoded c)) j
+      ∙ ap (λ (l : List ℤ). set l (i * 4 + 3) (signed (uncoded c))) (sym w ∙ ap numbers cut)
+      ∙ set-one (take i rs) r (drop (suc i) rs) (uncoded c) i d ∙ sym (ap numbers painted-is) in
       let at : r ≡ row-held buf n i = held-at buf n (room buf n (g .laid)) i (g .there) in
       record {
         laid = laid-by new n (map (paint (r .to) (uncoded c)) rs) (g .laid .few) (omega (arith, g .laid .room)) now
-          (every-true row-fits (map (paint (r .to) (uncoded c)) rs) fits-painted)
-          (rising-true _ (rising-paint (r .to) (uncoded c) rs (true-rising rs (g .laid .passed .rises))));
+            (every-true row-fits (map (paint (r .to) (uncoded c)) rs) fits-painted)
+            (rising-true _ (rising-paint (r .to) (uncoded c) rs (true-rising rs (g .laid .passed .rises))));
         rows = ap rows-in now ∙ rows-numbers (map (paint (r .to) (uncoded c)) rs)
-          ∙ ap (λ (x : Row). map (paint (x .to) (uncoded c)) rs) at;
+            ∙ ap (λ (x : Row). map (paint (x .to) (uncoded c)) rs) at;
       }

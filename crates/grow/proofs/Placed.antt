@@ -26,8 +26,18 @@ use Rattle.trees.proofs.Find.{In}
 use Rattle.trees.proofs.Rising.{true-rising, rising-true, rising-insert, in-insert}
 use Rattle.grow.specs.Moves.{inserted}
 use Rattle.grow.specs.Held.{held, Laid, Adding, next, Added}
-use Rattle.grow.proofs.Written.{rows-numbers, numbers-append, numbers-take, numbers-drop,
-  numbers-back, no-row, row-there, held-numbers, held-length, held-at}
+use Rattle.grow.proofs.Written.{
+  rows-numbers,
+  numbers-append,
+  numbers-take,
+  numbers-drop,
+  numbers-back,
+  no-row,
+  row-there,
+  held-numbers,
+  held-length,
+  held-at,
+}
 
 -- a row goes before the first row that it comes before
 pub insert-at : (r : Row) (rs : List Row) (p : ℕ) → p ≤ length rs
@@ -39,8 +49,10 @@ insert-at r [] zero h b a = refl
 insert-at r [] (suc p) h b a = absurd (omega arith)
 insert-at r (x ∷ rs) zero h b a = rw (a (omega arith))
 insert-at r (x ∷ rs) (suc p) h b a =
-    rw (b 0 (omega arith),
-      insert-at r rs p (omega arith) (λ k l. b (suc k) (omega arith)) (λ l. a (omega arith)))
+    rw (
+      b 0 (omega arith),
+      insert-at r rs p (omega arith) (λ k l. b (suc k) (omega arith)) (λ l. a (omega arith)),
+    )
 
 drop-take : (i n : ℕ) (l : List ℤ) → i ≤ n → drop i (take n l) ≡ take (n - i) (drop i l)
 drop-take zero n l h = let e : n - zero ≡ n = omega arith in rw e
@@ -59,7 +71,7 @@ pub fitting : (r : Row) → r .from ≤ 1023 → r .terminal ≤ 65535 → r .to
 unfolding row-fits
 fitting r a b c d =
     both (leb (r .from) 1023 && leb (r .terminal) 65535) _
-      (both _ _ (le-leb _ _ a) (le-leb _ _ b)) (both _ _ (le-leb _ _ c) d)
+    (both _ _ (le-leb _ _ a) (le-leb _ _ b)) (both _ _ (le-leb _ _ c) d)
 
 module _ (buf : List ℤ) (n : ℕ) (l : Laid buf n) where
   pub room : n * 4 ≤ length buf
@@ -141,33 +153,40 @@ module _ (buf : List ℤ) (n i s t c : ℕ) (a : Adding buf n i s t c) where
     cut =
         let l : i * 4 ≤ n * 4 = omega (arith, place-within) in
         e ∙ rw (← take-take (i * 4) (n * 4) buf l, ← drop-take (i * 4) (n * 4) buf l)
-          (sym (append-assoc (take (i * 4) ns) row (drop (n * 4 + 4) buf)))
+        (sym (append-assoc (take (i * 4) ns) row (drop (n * 4 + 4) buf)))
 
     pub now-written : take (suc n * 4) new ≡ numbers (insert r rs)
     now-written =
         let b : length (take (i * 4) ns ++ row) ≡ suc n * 4 =
-            omega (arith, length-append (take (i * 4) ns) row, length-take-le (i * 4) ns
-                (omega (arith, numbers-long, place-within)),
-              length-drop (i * 4) ns, numbers-long, place-within) in
+        omega (
+          arith,
+          length-append (take (i * 4) ns) row,
+          length-take-le (i * 4) ns
+              (omega (arith, numbers-long, place-within)),
+          length-drop (i * 4) ns,
+          numbers-long,
+          place-within,
+        ) in
         let w : numbers rs ≡ ns = written buf n (a .laid) in
         ap (take (suc n * 4)) cut ∙ take-at (take (i * 4) ns ++ row) (drop (n * 4 + 4) buf) (suc n * 4) b
         ∙ sym (ap numbers split ∙ numbers-append (take i rs) (r ∷ drop i rs)
-          ∙ rw (numbers-take i rs, numbers-drop i rs, w))
+        ∙ rw (numbers-take i rs, numbers-drop i rs, w))
 
     pub added : Added buf new n i s t c
     added = record {
       there = omega (arith, place-within);
       at = sym (held-at new (suc n) (omega (arith, a .more, a .laid .room)) i (omega (arith, place-within)))
-        ∙ ap (λ (l : List Row). getD l i no-row) (ap rows-in now-written ∙ rows-numbers (insert r rs) ∙ split)
-        ∙ getD-at (take i rs) r (drop i rs) no-row i (length-take-le i rs (omega (arith, place-within, rows-long)));
+          ∙ ap (λ (l : List Row). getD l i no-row) (ap rows-in now-written ∙ rows-numbers (insert r rs) ∙ split)
+          ∙ getD-at (take i rs) r (drop i rs) no-row i (length-take-le i rs (omega (arith, place-within, rows-long)));
       laid = laid-by new (suc n) (insert r rs) (omega (arith, a .more)) (omega (arith, a .laid .room)) now-written
-        (every-true row-fits (insert r rs)
-            (λ x j. ⊎-elim (λ k. ap row-fits k ∙ own) (λ k. old x k) (in-insert r rs x j)))
-        (rising-true (insert r rs) (rising-insert r rs (true-rising rs (a .laid .passed .rises)) (a .new)));
+          (every-true row-fits (insert r rs)
+          (λ x j. ⊎-elim (λ k. ap row-fits k ∙ own) (λ k. old x k) (in-insert r rs x j)))
+          (rising-true (insert r rs) (rising-insert r rs (true-rising rs (a .laid .passed .rises)) (a .new)));
       rows = ap rows-in now-written ∙ rows-numbers (insert r rs);
     }
       where
         own : row-fits r ≡ true
         own = fitting r (a .from) (a .terminal) (omega (arith, a .more)) (uncoded-fits c (a .production))
+
         old : (x : Row) → In x rs → row-fits x ≡ true
         old x k = every-in row-fits rs (a .laid .passed .fits) x k

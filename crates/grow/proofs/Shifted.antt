@@ -26,7 +26,7 @@ stored l i w x y z h =
     let e₃ : b + 3 ≡ suc (suc (suc b)) = omega arith in
     let m : b + 4 ≤ length l = omega arith in
     rw (e₁, e₂, e₃) (sets-eq (w ∷ x ∷ y ∷ z ∷ []) l b m
-      ∙ append-assoc (take b l) (w ∷ x ∷ y ∷ z ∷ []) (drop (b + 4) l))
+    ∙ append-assoc (take b l) (w ∷ x ∷ y ∷ z ∷ []) (drop (b + 4) l))
 
 next : (l : List ℤ) (k m : ℕ) → k < length l → suc k ≡ m → drop k l ≡ getD l k (pos 0) ∷ drop m l
 next l k m h e = drop-cons l k (pos 0) h ∙ rw e
@@ -39,12 +39,14 @@ over-same i e p q r s = λ j. over-row (e j) i (p j) (q j) (r j) (s j)
 -- the four numbers of row i, and what follows them
 pub row-off : (l : List ℤ) (i : ℕ) → i * 4 + 3 < length l
     → drop (i * 4) l ≡ getD l (i * 4) (pos 0) ∷ getD l (i * 4 + 1) (pos 0) ∷ getD l (i * 4 + 2) (pos 0)
-      ∷ getD l (i * 4 + 3) (pos 0) ∷ drop (i * 4 + 4) l
+    ∷ getD l (i * 4 + 3) (pos 0) ∷ drop (i * 4 + 4) l
 row-off l i h =
-    rw (next l (i * 4) (i * 4 + 1) (omega arith) (omega arith),
+    rw (
+      next l (i * 4) (i * 4 + 1) (omega arith) (omega arith),
       next l (i * 4 + 1) (i * 4 + 2) (omega arith) (omega arith),
       next l (i * 4 + 2) (i * 4 + 3) (omega arith) (omega arith),
-      next l (i * 4 + 3) (i * 4 + 4) (omega arith) (omega arith))
+      next l (i * 4 + 3) (i * 4 + 4) (omega arith) (omega arith),
+    )
 
 -- a row put into a list whose first m numbers are l's, where these end with the row's place
 put-after : (l r : List ℤ) (m i : ℕ) (w x y z : ℤ) → m ≡ i * 4 + 4 → m ≤ length l
@@ -53,7 +55,7 @@ unfolding over-row
 put-after l r m i w x y z e h =
     let lm : length (take m l) ≡ m = length-take-le m l h in
     let a : take (i * 4) (take m l ++ r) ≡ take (i * 4) l =
-        take-append-le (i * 4) (take m l) r (omega arith) ∙ take-take (i * 4) m l (omega arith) in
+    take-append-le (i * 4) (take m l) r (omega arith) ∙ take-take (i * 4) m l (omega arith) in
     let b : drop (i * 4 + 4) (take m l ++ r) ≡ r = drop-at (take m l) r (i * 4 + 4) (omega arith) in
     rw (a, b)
 
@@ -66,29 +68,29 @@ module _ (l : List ℤ) (n : ℕ) (room : n * 4 + 3 < length l) where
   unfolding opened
   open-read k j h m =
       List·getD-append (take (k * 4 + 4) l) (take (n * 4 - k * 4) (drop (k * 4) l) ++ drop (n * 4 + 4) l) (pos 0) j
-        (omega (arith, length-take-le (k * 4 + 4) l (omega arith)))
+      (omega (arith, length-take-le (k * 4 + 4) l (omega arith)))
       ∙ getD-take (k * 4 + 4) l j (pos 0) m
 
   pub open-step : (k : ℕ) → k < n → up-row (opened l n (k + 1)) k ≡ opened l n k
   unfolding opened
   open-step k h =
       let up : take (n * 4 - k * 4) (drop (k * 4) l)
-            ≡ getD l (k * 4) (pos 0) ∷ getD l (k * 4 + 1) (pos 0) ∷ getD l (k * 4 + 2) (pos 0)
-            ∷ getD l (k * 4 + 3) (pos 0) ∷ take (n * 4 - (k + 1) * 4) (drop ((k + 1) * 4) l) =
-          let s : n * 4 - k * 4 ≡ suc (suc (suc (suc (n * 4 - (k + 1) * 4)))) = omega arith in
-          let t : (k + 1) * 4 ≡ k * 4 + 4 = omega arith in
-          rw (s, t, row-off l k (omega arith)) in
+      ≡ getD l (k * 4) (pos 0) ∷ getD l (k * 4 + 1) (pos 0) ∷ getD l (k * 4 + 2) (pos 0)
+      ∷ getD l (k * 4 + 3) (pos 0) ∷ take (n * 4 - (k + 1) * 4) (drop ((k + 1) * 4) l) =
+      let s : n * 4 - k * 4 ≡ suc (suc (suc (suc (n * 4 - (k + 1) * 4)))) = omega arith in
+      let t : (k + 1) * 4 ≡ k * 4 + 4 = omega arith in
+      rw (s, t, row-off l k (omega arith)) in
       let v : (k + 1) * 4 ≡ k * 4 + 4 = omega arith in
       let a : getD (opened l n (k + 1)) (k * 4) (pos 0) ≡ getD l (k * 4) (pos 0) =
-          open-read (k + 1) (k * 4) (omega arith) (omega arith) in
+      open-read (k + 1) (k * 4) (omega arith) (omega arith) in
       let b : getD (opened l n (k + 1)) (k * 4 + 1) (pos 0) ≡ getD l (k * 4 + 1) (pos 0) =
-          open-read (k + 1) (k * 4 + 1) (omega arith) (omega arith) in
+      open-read (k + 1) (k * 4 + 1) (omega arith) (omega arith) in
       let c : getD (opened l n (k + 1)) (k * 4 + 2) (pos 0) ≡ getD l (k * 4 + 2) (pos 0) =
-          open-read (k + 1) (k * 4 + 2) (omega arith) (omega arith) in
+      open-read (k + 1) (k * 4 + 2) (omega arith) (omega arith) in
       let d : getD (opened l n (k + 1)) (k * 4 + 3) (pos 0) ≡ getD l (k * 4 + 3) (pos 0) =
-          open-read (k + 1) (k * 4 + 3) (omega arith) (omega arith) in
+      open-read (k + 1) (k * 4 + 3) (omega arith) (omega arith) in
       put-after l (take (n * 4 - (k + 1) * 4) (drop ((k + 1) * 4) l) ++ drop (n * 4 + 4) l) ((k + 1) * 4 + 4) (k + 1)
-        _ _ _ _ refl (omega arith)
+      _ _ _ _ refl (omega arith)
       ∙ rw (a, b, c, d, up, v)
 
   -- the row in the room that was made for it

@@ -67,9 +67,13 @@ numbers-back (f ∷ t ∷ g ∷ p ∷ ns) zero h e = absurd (omega arith)
 numbers-back (f ∷ t ∷ g ∷ p ∷ ns) (suc n) h e =
     let r : Row = record { from = natural f; terminal = natural t; to = natural g; production = accepting p } in
     let b : Fit r = fit r (first-of (row-fits r) (every row-fits (rows-in ns)) e) in
-    rw (back-natural f (omega (arith, b .from)), back-natural t (b .terminal), back-natural g (omega (arith, b .to)),
+    rw (
+      back-natural f (omega (arith, b .from)),
+      back-natural t (b .terminal),
+      back-natural g (omega (arith, b .to)),
       back-accepting p (b .production),
-      numbers-back ns n (omega arith) (second-of (row-fits r) (every row-fits (rows-in ns)) e))
+      numbers-back ns n (omega arith) (second-of (row-fits r) (every row-fits (rows-in ns)) e),
+    )
 
 -- ---- the row at a place
 abbrev pub no-row : Row
@@ -98,9 +102,13 @@ module _ (buf : List ℤ) (n : ℕ) (h : n * 4 ≤ length buf) where
   -- a row among the first n is the row of the whole array
   pub held-row : (i : ℕ) → i < n → row-held buf n i ≡ row-at buf i
   held-row i l =
-      rw (getD-take (n * 4) buf (i * 4) (pos 0) (omega arith), getD-take (n * 4) buf (i * 4 + 1) (pos 0) (omega arith),
-        getD-take (n * 4) buf (i * 4 + 2) (pos 0) (omega arith), getD-take (n * 4) buf (i * 4 + 3) (pos 0)
-            (omega arith))
+      rw (
+        getD-take (n * 4) buf (i * 4) (pos 0) (omega arith),
+        getD-take (n * 4) buf (i * 4 + 1) (pos 0) (omega arith),
+        getD-take (n * 4) buf (i * 4 + 2) (pos 0) (omega arith),
+        getD-take (n * 4) buf (i * 4 + 3) (pos 0)
+            (omega arith),
+      )
 
   pub held-at : (i : ℕ) → i < n → getD (held buf n) i no-row ≡ row-held buf n i
   held-at i l = row-there (take (n * 4) buf) i (omega (arith, held-numbers))

@@ -1,7 +1,8 @@
 // Rows that grow: a row put where it belongs, or given a production, in a lent array.
-use paper::{Making, State, Terminal};
+use paper::Making;
+use paper::State;
+use paper::Terminal;
 use rows::numbers;
-
 ghost use mathlib.Core.Path.{_≡_};
 ghost use Prim.Native.Nat.{_+_, _*_, _<_, _≤_, max};
 ghost use lib.ListN.{length};

@@ -1,1 +1,9 @@
--- (see the files named below)
+pub mod Fronts
+pub mod Lengths
+pub mod Kept
+pub mod Joined
+pub mod Lists
+pub mod Joining
+pub mod Answering
+pub mod Lends
+pub mod Demand

@@ -9,6 +9,7 @@ use Rattle.paper.specs.Words.{bytes}
 use Rattle.paper.specs.Answers.{number, detail, refuse}
 use Rattle.paper.specs.Text.{digits, decimal}
 use Rattle.paper.specs.Tabrep.{line, printed}
+use Rattle.text.specs.Put.{Puts}
 use Rattle.report.specs.declared.lines.Sizes.{Sizes}
 use Rattle.report.specs.Printed.{labelled, three}
 
@@ -17,10 +18,11 @@ pub line-parts : (w : List ℕ) (a b : ℕ) →
 unfolding labelled decimal
 line-parts w a b = simp append-assoc
 
-pub refused-parts : (n : ℕ) (d : List ℕ) →
-    ((114 ∷ 101 ∷ 102 ∷ 117 ∷ 115 ∷ 101 ∷ 100 ∷ 32 ∷ []) ++ digits 5 n) ++ (10 ∷ []) ≡ printed (refuse n d)
+pub refused-parts : (n : ℕ) (f : Refusal) → n ≡ number f →
+    ((114 ∷ 101 ∷ 102 ∷ 117 ∷ 115 ∷ 101 ∷ 100 ∷ 32 ∷ []) ++ digits 5 n) ++ (10 ∷ [])
+    ≡ printed (refuse (number f) (detail f))
 unfolding printed decimal bytes
-refused-parts n d = refl
+refused-parts n f e = rw e
 
 pub three-parts : (t a i : Sizes) →
     (labelled (105 ∷ 110 ∷ 32 ∷ []) (t .states) (t .rows)
@@ -32,6 +34,10 @@ three-parts t a i = append-assoc
     (labelled (105 ∷ 110 ∷ 32 ∷ []) (t .states) (t .rows))
     (labelled (97 ∷ 114 ∷ 99 ∷ 104 ∷ 105 ∷ 118 ∷ 101 ∷ 32 ∷ []) (a .states) (a .rows))
     (labelled (105 ∷ 110 ∷ 116 ∷ 97 ∷ 107 ∷ 101 ∷ 32 ∷ []) (i .states) (i .rows))
+
+-- the same room
+pub puts-room : {l m a : List ℕ} {at n r q : ℕ} → r ≡ q → Puts l at r a m n → Puts l at q a m n
+puts-room e p = rw e at p
 
 -- a refusal's number has two digits at most
 pub number-small : (f : Refusal) → number f < 100000

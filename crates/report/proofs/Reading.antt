@@ -13,7 +13,7 @@ use Rattle.paper.specs.declared.Refusal.{Refusal}
 use Rattle.paper.specs.declared.Reading.the-variants.{Read, Refused}
 use Rattle.paper.specs.Rows.{Row, Table, table, numbers, signed}
 use Rattle.paper.specs.Answers.{Ruling, accept, refuse, then, Title, Reads, number, detail}
-use Rattle.paper.specs.Checks.{first, plain, range, little-room}
+use Rattle.paper.specs.Checks.{first, plain, range, order, little-room}
 use Rattle.paper.specs.Text.{lines, read-lines, text-in}
 use Rattle.laws.proofs.RowNumbers.{table-numbers, length-numbers, slice-numbers}
 use Rattle.text.proofs.Never.{refuse-accept}
@@ -34,10 +34,15 @@ passed input room t e = go (read-lines (lines input)) (passes (little-room room)
     go (accept x) w =
         let a = passes (ltb 4096 (length (x .rows))) 1 _ t w in
         let b = passes (range x) 2 _ t (a .1) in
-        let c = passes _ 3 _ t (b .1) in
-        let v : x ≡ t = let q = c .1 in cc in
+        let c = passes (order x) 3 (accept x) t (b .1) in
+        let q : accept x ≡ accept t = c .1 in
+        let v : x ≡ t = cc in
         record { few = ltb-false 4096 _ (rw v at (a .0)); ranged = rw v at (b .0) }
     go (refuse m d) w = refuse-accept w
+
+-- the title of a table
+abbrev title : Table → Title
+title t = record { prod0 = signed (t .prod0); k = t .k; rows = length (t .rows) }
 
 -- the front of what text in wrote, and the ruling on its table
 pub record Front (input : List ℕ) (p : ℤ) (k n : ℕ) (new : List ℤ) : Type 0 where
@@ -52,25 +57,20 @@ module _ (input : List ℕ) {old new : List ℤ} where
   text-refused f m = go (text-in input 16384) (m .says)
     where
       go : (r : Ruling Table) →
-          refuse (number f) (detail f) ≡ then r (λ t. accept (record {
-            prod0 = signed (t .prod0);
-            k = t .k;
-            rows = length (t .rows);
-          })) → then r of-table ≡ refuse (number f) (detail f)
+          refuse (number f) (detail f) ≡ then r (λ t. accept (title t)) →
+          then r of-table ≡ refuse (number f) (detail f)
       go (accept x) e = refuse-accept e
       go (refuse n d) e = let a : n ≡ number f = cc in let b : d ≡ detail f = cc in rw (a, b)
 
   module _ (p : ℤ) (k n : ℕ) where
-    abbrev given : Title
-    given = record { prod0 = p; k = k; rows = n }
-
     front : (t : Table) → text-in input 16384 ≡ accept t → Reads (accept t) (Read p k n) old new →
         Front input p k n new
     unfolding of-text
     front t is m =
         let ns = numbers (t .rows) in
-        let read : Title = record { prod0 = signed (t .prod0); k = t .k; rows = length (t .rows) } in
-        let same : given ≡ read = let q = m .says in cc in
+        let given : Title = record { prod0 = p; k = k; rows = n } in
+        let says : accept given ≡ accept (title t) = m .says in
+        let same : given ≡ title t = cc in
         let c : n ≡ length (t .rows) = ap (λ (x : Title). x .rows) same in
         let four : length ns ≡ n * 4 = omega (arith, length-numbers (t .rows)) in
         let at : take (n * 4) new ≡ ns = ap (take (n * 4)) (m .holds) ∙ take-at ns (drop (length ns) old) (n * 4) four in

@@ -34,7 +34,7 @@ fn emit_row(
     ensures { λ _. ⌜ Written (now (out .entry)) (now (out .exit)) o (o + 1)
         (new-row (now (rows .entry)) (now (class .entry)) (now (number .entry)) f i ∷ []) ⌝ }
 {
-    let to = index::at(number, same::target(rows, class, i));
+    let to = index::at(number, same::to_mark(rows, class, i));
     let at = o * 4;
     out[at] = numbers::number_of(f);
     out[at + 1] = numbers::number_of(numbers::terminal_at(rows, i));

@@ -42,7 +42,7 @@ pub fn compared(mode: Mode, p: usize) -> bool
 }
 
 // The mark of the state that row i leads to.
-pub fn target(rows: &[i32], class: &[u16; 1024], i: usize) -> usize
+pub fn to_mark(rows: &[i32], class: &[u16; 1024], i: usize) -> usize
     requires { ⌜ Passed (now rows) × (i < length (now rows) / 4) ⌝ }
     ensures { λ r. ⌜ (r ≡ mark-in (now (class .entry)) (row-at (now (rows .entry)) i .to)) × (r ≤ 65535) ⌝ }
 {
@@ -57,7 +57,7 @@ fn hash(rows: &[i32], first: &[u16; 1024], class: &[u16; 1024], s: usize, h: usi
     let mut r = h;
     let mut i = index::at(first, s);
     while index::leaves(rows, s, i) {
-        r = (r * 27191 + numbers::terminal_at(rows, i) * 40493 + target(rows, class, i)) % 65521;
+        r = (r * 27191 + numbers::terminal_at(rows, i) * 40493 + to_mark(rows, class, i)) % 65521;
         i += 1;
     }
     r
@@ -92,7 +92,7 @@ fn same_row(rows: &[i32], class: &[u16; 1024], i: usize, j: usize) -> bool
     if numbers::terminal_at(rows, i) != numbers::terminal_at(rows, j) {
         return false;
     }
-    target(rows, class, i) == target(rows, class, j)
+    to_mark(rows, class, i) == to_mark(rows, class, j)
 }
 
 // The states a and b have equal rows by marks.

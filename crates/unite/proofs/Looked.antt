@@ -122,8 +122,8 @@ module _ (mode : Mode) (rs : List Row) (s t : ℕ) (q : Option ℕ) where
     where
       go : (g : Ruling (Option ℕ)) → _≡_ {A = Ruling ℕ} (then g (λ _. accept (x .to))) (accept v)
           → (w : Standing) × (then {B = Standing} g
-              (λ c. accept (record { rows = map (paint (z .to) c) rs; state = z .to }))
-            ≡ accept w)
+          (λ c. accept (record { rows = map (paint (z .to) c) rs; state = z .to }))
+          ≡ accept w)
       go (accept c) e = (_, refl)
       go (refuse m f) e = absurd (let z : _≡_ {A = ℕ} 0 1 = cc in omega arith)
 

@@ -101,67 +101,68 @@ begins mode b buf map n l tr t m = record {
 }
 
 module _ (mode : Mode) (xs : List Row) (b buf : List ℤ) (map : List ℕ) (n i : ℕ) (o : Ongoing mode xs b buf map n i)
-    where
-  pub ends : length b / 4 ≤ i → Unites mode xs (rows-in b) buf n
-  unfolding take-rows
-  ends h = record {
-    laid = o .laid;
-    matches = o .matches;
-    is = λ p k. o .left p k
-      ∙ ap (take-rows mode (so-far p k (held buf n) (o .matches))) (rest-end b i (omega arith));
-  }
-
-  module _ (t : Treed b) (h : i < length b / 4) where
-    abbrev r : Row
-    r = row-at b i
-
-    pub row-fit : Fit (row-at b i)
-    row-fit = fit-at (t .passed) i h
-
-    pub from-is : getD map (row-at b i .from) 0 ≡ matched (o .matches) (row-at b i .from)
-    from-is = o .maps .held (row-at b i .from) (omega (arith, row-fit .from))
-
-    cut : rest b i ≡ r ∷ rest b (i + 1)
-    cut = rest-cons b i (omega arith)
-
-    here : (p : Option ℕ) (k : ℕ)
-        → all-rows mode xs (rows-in b) p k ≡ take-rows mode (so-far p k (held buf n) (o .matches)) (r ∷ rest b (i + 1))
-    here p k = o .left p k ∙ ap (take-rows mode (so-far p k (held buf n) (o .matches))) cut
-
-    first : Next (o .done) r × Ordered (o .done ++ (r ∷ [])) (rest b (i + 1))
-    first = first-row (subst (Ordered (o .done)) cut (o .order))
-
-    pub clashes : (x y : ℕ) → one-row mode (held buf n) (o .matches) r ≡ refuse 8 (x ∷ y ∷ [])
-        → Clashes mode xs (rows-in b) x y
-    clashes x y e = record {
-      is = λ p k. here p k
-        ∙ step-refused mode (held buf n) (o .matches) (o .matching .tree) r 8 (x ∷ y ∷ []) e p k (rest b (i + 1));
+  where
+    pub ends : length b / 4 ≤ i → Unites mode xs (rows-in b) buf n
+    unfolding take-rows
+    ends h = record {
+      laid = o .laid;
+      matches = o .matches;
+      is = λ p k. o .left p k
+          ∙ ap (take-rows mode (so-far p k (held buf n) (o .matches))) (rest-end b i (omega arith));
     }
 
-    pub overflows : Over (one-row mode (held buf n) (o .matches) r) → Overflows mode xs (rows-in b)
-    overflows v = record {
-      is = λ p k u e. many-stay mode 1024 (after p k (o .matches) r (v .standing)) u (rest b (i + 1))
-          (omega (arith, v .over))
-        (sym (here p k
-          ∙ step-taken mode (held buf n) (o .matches) (o .matching .tree) r (v .standing) (v .is) p k
-              (rest b (i + 1))) ∙ e);
-    }
+    module _ (t : Treed b) (h : i < length b / 4) where
+      abbrev r : Row
+      r = row-at b i
 
-    pub goes-on : (new : List ℤ) (m s : ℕ) → Stands new m s (one-row mode (held buf n) (o .matches) r)
-        → Ongoing mode xs b new (set map (r .to) s) m (i + 1)
-    goes-on new m s v =
-        let w : Standing = record { rows = held new m; state = s } in
-        record {
-          within = omega arith;
-          laid = v .laid;
-          matches = (r .to, s) ∷ o .matches;
-          done = o .done ++ (r ∷ []);
-          order = first .1;
-          matching = match-on mode (word (plain xs)) none none 0 (o .done) (held buf n) (o .matches) r w (o .matching)
-            (first .0) (v .is);
-          maps = holds-set (r .to) s (o .maps) (omega (arith, row-fit .to)) (matched-here (o .matches) (r .to) s)
-            (matched-other (o .matches) (r .to) s);
-          small = matched-small (o .matches) (r .to) s (v .small) (o .small);
-          left = λ p k. here p k
-            ∙ step-taken mode (held buf n) (o .matches) (o .matching .tree) r w (v .is) p k (rest b (i + 1));
-        }
+      pub row-fit : Fit (row-at b i)
+      row-fit = fit-at (t .passed) i h
+
+      pub from-is : getD map (row-at b i .from) 0 ≡ matched (o .matches) (row-at b i .from)
+      from-is = o .maps .held (row-at b i .from) (omega (arith, row-fit .from))
+
+      cut : rest b i ≡ r ∷ rest b (i + 1)
+      cut = rest-cons b i (omega arith)
+
+      here : (p : Option ℕ) (k : ℕ)
+          → all-rows mode xs (rows-in b) p k
+            ≡ take-rows mode (so-far p k (held buf n) (o .matches)) (r ∷ rest b (i + 1))
+      here p k = o .left p k ∙ ap (take-rows mode (so-far p k (held buf n) (o .matches))) cut
+
+      first : Next (o .done) r × Ordered (o .done ++ (r ∷ [])) (rest b (i + 1))
+      first = first-row (subst (Ordered (o .done)) cut (o .order))
+
+      pub clashes : (x y : ℕ) → one-row mode (held buf n) (o .matches) r ≡ refuse 8 (x ∷ y ∷ [])
+          → Clashes mode xs (rows-in b) x y
+      clashes x y e = record {
+        is = λ p k. here p k
+            ∙ step-refused mode (held buf n) (o .matches) (o .matching .tree) r 8 (x ∷ y ∷ []) e p k (rest b (i + 1));
+      }
+
+      pub overflows : Over (one-row mode (held buf n) (o .matches) r) → Overflows mode xs (rows-in b)
+      overflows v = record {
+        is = λ p k u e. many-stay mode 1024 (after p k (o .matches) r (v .standing)) u (rest b (i + 1))
+            (omega (arith, v .over))
+            (sym (here p k
+            ∙ step-taken mode (held buf n) (o .matches) (o .matching .tree) r (v .standing) (v .is) p k
+            (rest b (i + 1))) ∙ e);
+      }
+
+      pub goes-on : (new : List ℤ) (m s : ℕ) → Stands new m s (one-row mode (held buf n) (o .matches) r)
+          → Ongoing mode xs b new (set map (r .to) s) m (i + 1)
+      goes-on new m s v =
+          let w : Standing = record { rows = held new m; state = s } in
+          record {
+            within = omega arith;
+            laid = v .laid;
+            matches = (r .to, s) ∷ o .matches;
+            done = o .done ++ (r ∷ []);
+            order = first .1;
+            matching = match-on mode (word (plain xs)) none none 0 (o .done) (held buf n) (o .matches) r w (o .matching)
+                (first .0) (v .is);
+            maps = holds-set (r .to) s (o .maps) (omega (arith, row-fit .to)) (matched-here (o .matches) (r .to) s)
+                (matched-other (o .matches) (r .to) s);
+            small = matched-small (o .matches) (r .to) s (v .small) (o .small);
+            left = λ p k. here p k
+                ∙ step-taken mode (held buf n) (o .matches) (o .matching .tree) r w (v .is) p k (rest b (i + 1));
+          }

@@ -31,8 +31,17 @@ use Rattle.grow.proofs.Fronts.{front-read}
 use Rattle.grow.proofs.Answered.{within-full}
 use Rattle.trees.proofs.Tree.{Tree}
 use Rattle.unite.specs.Whole.{Passes}
-use Rattle.unite.specs.Taking.{all-rows, Unites, Clashes, Overflows, Accepts, Refuses, United-rows, Treed,
-  joining}
+use Rattle.unite.specs.Taking.{
+  all-rows,
+  Unites,
+  Clashes,
+  Overflows,
+  Accepts,
+  Refuses,
+  United-rows,
+  Treed,
+  joining,
+}
 use Rattle.unite.specs.declared.taking.Union.{Union}
 
 -- ---- the rows
@@ -78,7 +87,7 @@ module _ (mode : Mode) (A B : Table) (old : List ℤ) where
 
   pub root-makes : (z : Option ℕ) (k : ℕ) → root mode (A .prod0) (B .prod0) ≡ accept z → k ≡ united-k mode (A .k) (B .k)
       → (r : Making) (new : List ℤ) → Makes (joining mode z k (A .rows) (B .rows)) r old new
-          → Makes (united mode A B) r old new
+      → Makes (united mode A B) r old new
   unfolding united
   root-makes z k e d r new m = rw (e, ← d) m
 
@@ -112,7 +121,7 @@ module _ (mode : Mode) (p : ℤ) (k : ℕ) (ns : List ℤ) (q : ℤ) (l : ℕ) (
 
       pub all-checks : 16384 ≤ room → (r : Making) (new : List ℤ)
           → Makes (first (tree (table p k ns))
-              (first (tree (table q l ms)) (united mode (table p k ns) (table q l ms)))) r old new
+          (first (tree (table q l ms)) (united mode (table p k ns) (table q l ms)))) r old new
           → Makes (unite mode p k ns q l ms room) r old new
       unfolding unite unite-tables little-room
       all-checks h r new m = rw (a, b, le-ltb room 16384 h) m
@@ -128,10 +137,10 @@ passes-as k ns e h = subst (λ (z : ℤ). Passes z k ns) e h
 
 pub united-as : (mode : Mode) {p q u v : ℤ} (k l : ℕ) (ns ms : List ℤ) (r : Making) (old new : List ℤ) → p ≡ q → u ≡ v
     → Makes (united mode (table p k ns) (table u l ms)) r old new
-        → Makes (united mode (table q k ns) (table v l ms)) r old new
+    → Makes (united mode (table q k ns) (table v l ms)) r old new
 united-as mode {p} {q} {u} {v} k l ns ms r old new e d m =
     let z : united mode (table p k ns) (table u l ms) ≡ united mode (table q k ns) (table v l ms) =
-        λ j. united mode (table (e j) k ns) (table (d j) l ms) in
+    λ j. united mode (table (e j) k ns) (table (d j) l ms) in
     subst (λ (g : Ruling Made). Makes g r old new) z m
 
 pub second-as : (mode : Mode) {p q u v : ℤ} (k l : ℕ) (ns ms : List ℤ) (r : Making) (old new : List ℤ) → p ≡ q → u ≡ v
@@ -139,6 +148,6 @@ pub second-as : (mode : Mode) {p q u v : ℤ} (k l : ℕ) (ns ms : List ℤ) (r 
     → Makes (first (tree (table v l ms)) (united mode (table q k ns) (table v l ms))) r old new
 second-as mode {p} {q} {u} {v} k l ns ms r old new e d m =
     let z : first (tree (table u l ms)) (united mode (table p k ns) (table u l ms))
-          ≡ first (tree (table v l ms)) (united mode (table q k ns) (table v l ms)) =
-        λ j. first (tree (table (d j) l ms)) (united mode (table (e j) k ns) (table (d j) l ms)) in
+    ≡ first (tree (table v l ms)) (united mode (table q k ns) (table v l ms)) =
+    λ j. first (tree (table (d j) l ms)) (united mode (table (e j) k ns) (table (d j) l ms)) in
     subst (λ (g : Ruling Made). Makes g r old new) z m

@@ -43,9 +43,10 @@ module _ (buf : List ℤ) (n i : ℕ) (l : Laid buf n) (h : i < n) where
   pub code-read : (p : ℕ) → p ≡ code (row-at buf i .production)
       → (uncoded p ≡ row-held buf n i .production) × (p ≤ 65536)
   code-read p e =
-      let d : p ≡ code (row-held buf n i .production) = e ∙ ap (λ (x : Row). code (x .production)) read in
-      (ap uncoded d ∙ uncoded-code (row-held buf n i .production),
-       omega (arith, d, fit-at (l .passed) i (omega (arith, held-numbers buf n (room buf n l))) .production))
+      let d : p ≡ code (row-held buf n i .production) = e ∙ ap (λ (x : Row). code (x .production)) read in (
+        ap uncoded d ∙ uncoded-code (row-held buf n i .production),
+        omega (arith, d, fit-at (l .passed) i (omega (arith, held-numbers buf n (room buf n l))) .production),
+      )
 
 -- ---- a new row
 module _ (buf : List ℤ) (n i s t c : ℕ) (m : Missed buf n i s t c) (mode : Mode) where
@@ -103,7 +104,7 @@ gives mode buf new n i p q c to e d g a s t = record {
   laid = a .laid;
   small = d .1;
   is = matches-row mode (held buf n) (row-held buf n i) p (uncoded q) e s t (uncoded c) g
-    ∙ sym (λ j. accept (record { rows = a .rows j; state = d .0 j }));
+      ∙ sym (λ j. accept (record { rows = a .rows j; state = d .0 j }));
 }
 
 -- what came of a row, as another says it

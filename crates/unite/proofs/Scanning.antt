@@ -33,8 +33,17 @@ use Rattle.unite.specs.Looking.{seek, looked, Looks}
 use Rattle.unite.specs.declared.scan.Look.{Look}
 use Rattle.unite.proofs.Steps.{one-row, after, step-refused, step-taken, match-on, first-row}
 use Rattle.unite.proofs.Ongoing.{plain, matching-none}
-use Rattle.unite.proofs.Looked.{mark, lead-on, looked-match, own-none, own-some, Alike, alike, alike-refused,
-  alike-taken}
+use Rattle.unite.proofs.Looked.{
+  mark,
+  lead-on,
+  looked-match,
+  own-none,
+  own-some,
+  Alike,
+  alike,
+  alike-refused,
+  alike-taken,
+}
 
 -- the map holds for each state reached by the rows D its match in xs
 abbrev pub Marks : List Row → List Row → List ℕ → Type 0
@@ -90,8 +99,10 @@ module _ (mode : Mode) (xs : List Row) (b : List ℤ) (map : List ℕ) (i : ℕ)
   pub scan-ends : length b / 4 ≤ i → Accepts mode xs (rows-in b)
   unfolding take-rows
   scan-ends h = record {
-    is = λ p k. (so-far p k (o .rows) (o .matches),
-      o .left p k ∙ ap (take-rows mode (so-far p k (o .rows) (o .matches))) (rest-end b i (omega arith)));
+    is = λ p k. (
+      so-far p k (o .rows) (o .matches),
+      o .left p k ∙ ap (take-rows mode (so-far p k (o .rows) (o .matches))) (rest-end b i (omega arith)),
+    );
   }
 
   module _ (tr : Tree xs) (few : length xs ≤ 1023) (t : Treed b) (h : i < length b / 4) where
@@ -133,20 +144,20 @@ module _ (mode : Mode) (xs : List Row) (b : List ℤ) (map : List ℕ) (i : ℕ)
         let (x, e₁, e₂) = o .matching .match w y at in
         let e₃ : x .state ≡ matched (o .matches) (r .from) = e₂ ∙ ap (matched (o .matches)) is in
         alike (word (plain xs) (r .terminal ∷ w)) (find (o .rows) (matched (o .matches) (r .from)) (r .terminal)) G
-          (own-none mode (word (plain xs)) none (o .done) (o .rows) (o .matches) (o .matching) r (first .0) w y at is
-              x e₁ e₃)
-          (own-some mode (word (plain xs)) none (o .done) (o .rows) (o .matches) (o .matching) r (first .0) w y at is
-              x e₁ e₃)
-          (ap said leads)
+        (own-none mode (word (plain xs)) none (o .done) (o .rows) (o .matches) (o .matching) r (first .0) w y at is
+        x e₁ e₃)
+        (own-some mode (word (plain xs)) none (o .done) (o .rows) (o .matches) (o .matching) r (first .0) w y at is
+        x e₁ e₃)
+        (ap said leads)
 
     pub scan-clashes : (x y : ℕ) → looked mode (r .production) G ≡ refuse 8 (x ∷ y ∷ [])
         → Clashes mode xs (rows-in b) x y
     scan-clashes x y e = record {
       is = λ p k. here p k
-        ∙ step-refused mode (o .rows) (o .matches) (o .matching .tree) r 8 (x ∷ y ∷ [])
+          ∙ step-refused mode (o .rows) (o .matches) (o .matching .tree) r 8 (x ∷ y ∷ [])
           (alike-refused mode (o .rows) (matched (o .matches) (r .from)) (r .terminal) (r .production) G _
-              one-production 8
-            (x ∷ y ∷ []) e)
+          one-production 8
+          (x ∷ y ∷ []) e)
           p k (rest b (i + 1));
     }
 
@@ -156,28 +167,29 @@ module _ (mode : Mode) (xs : List Row) (b : List ℤ) (map : List ℕ) (i : ℕ)
       where
         grown : Grown none (find (o .done)) (find (o .done ++ (r ∷ []))) W (from-path .1) (r .terminal) r
         grown = grown-D mode (word (plain xs)) none (o .done) (so-far none 0 (o .rows) (o .matches)) (o .matching) r
-          (first .0) W (from-path .1) (from-path .2) (from-path .3)
+            (first .0) W (from-path .1) (from-path .2) (from-path .3)
+
         go : Dec (v ≡ r .terminal ∷ W) → getD (set map (r .to) u) (y .state) 0 ≡ mark (lead (plain xs) v)
         go (yes k) =
             let s : path none (find (o .done ++ (r ∷ []))) v ≡ some (sit r) =
-                ap (path none (find (o .done ++ (r ∷ [])))) k
-                ∙ grown-here none (find (o .done)) (find (o .done ++ (r ∷ []))) W (from-path .1) (r .terminal) r
-                  grown in
+            ap (path none (find (o .done ++ (r ∷ [])))) k
+            ∙ grown-here none (find (o .done)) (find (o .done ++ (r ∷ []))) W (from-path .1) (r .terminal) r
+            grown in
             let z : y .state ≡ r .to = cc in
             ap (λ (x : ℕ). getD (set map (r .to) u) x 0) z
             ∙ getD-set-same map (r .to) u 0 (omega (arith, scan-fit .to, o .sized))
             ∙ looked-match mode (r .production) G u e ∙ ap mark (sym leads)
-                ∙ ap (λ (w : List ℕ). mark (lead (plain xs) w)) (sym k)
+            ∙ ap (λ (w : List ℕ). mark (lead (plain xs) w)) (sym k)
         go (no n) =
             let s : path none (find (o .done)) v ≡ some y =
-                sym (grown-other none (find (o .done)) (find (o .done ++ (r ∷ []))) W (from-path .1) (r .terminal) r
-                    grown v n) ∙ d in
+            sym (grown-other none (find (o .done)) (find (o .done ++ (r ∷ []))) W (from-path .1) (r .terminal) r
+            grown v n) ∙ d in
             getD-set-other map (r .to) (y .state) u 0 (not-there (o .done) r (first .0) v y s) ∙ o .marks v y s
 
     pub scan-on : (u : ℕ) → looked mode (r .production) G ≡ accept u → Scanning mode xs b (set map (r .to) u) (i + 1)
     scan-on u e =
         let (w, d) = alike-taken mode (o .rows) (matched (o .matches) (r .from)) (r .terminal) (r .production) G
-              (find (o .rows) (matched (o .matches) (r .from)) (r .terminal)) one-production u e in
+        (find (o .rows) (matched (o .matches) (r .from)) (r .terminal)) one-production u e in
         record {
           within = omega arith;
           rows = w .rows;
@@ -185,7 +197,7 @@ module _ (mode : Mode) (xs : List Row) (b : List ℤ) (map : List ℕ) (i : ℕ)
           done = o .done ++ (r ∷ []);
           order = first .1;
           matching = match-on mode (word (plain xs)) none none 0 (o .done) (o .rows) (o .matches) r w (o .matching)
-            (first .0) d;
+              (first .0) d;
           sized = simp length-set (o .sized);
           marks = marks-on u e;
           left = λ p k. here p k ∙ step-taken mode (o .rows) (o .matches) (o .matching .tree) r w d p k

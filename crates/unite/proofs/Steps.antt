@@ -46,16 +46,16 @@ then-accept (refuse n d) f h = refl
 row-is : (mode : Mode) (p : Option ℕ) (k : ℕ) (rs : List Row) (ms : List (ℕ × ℕ)) (r : Row) (o : Option Row)
     → ((x : Row) → o ≡ some x → 0 < x .to)
     → take-row mode (so-far p k rs ms) r o
-      ≡ then (taking mode rs (matched ms (r .from)) (r .terminal) (r .production) o) (λ w. accept (after p k ms r w))
+    ≡ then (taking mode rs (matched ms (r .from)) (r .terminal) (r .production) o) (λ w. accept (after p k ms r w))
 unfolding take-row taking give paint
 row-is mode p k rs ms r none h = refl
 row-is mode p k rs ms r (some x) h = go (taken mode (x .production) (r .production))
   where
     go : (g : Ruling (Option ℕ)) → then g (λ q. accept (record {
-          table = give (x .to) q (record { prod0 = p; k = k; rows = rs });
-          matches = (r .to, x .to) ∷ ms;
-        })) ≡ then (then g (λ z. accept (record { rows = map (paint (x .to) z) rs; state = x .to })))
-          (λ w. accept (after p k ms r w))
+      table = give (x .to) q (record { prod0 = p; k = k; rows = rs });
+      matches = (r .to, x .to) ∷ ms;
+    })) ≡ then (then g (λ z. accept (record { rows = map (paint (x .to) z) rs; state = x .to })))
+        (λ w. accept (after p k ms r w))
     go (accept z) =
         let e : eqb (x .to) 0 ≡ false = ne-eqb (x .to) 0 (λ d. omega (arith, h x refl, d)) in rw e
     go (refuse n d) = refl
@@ -66,7 +66,7 @@ module _ (mode : Mode) (rs : List Row) (ms : List (ℕ × ℕ)) (tr : Tree rs) (
 
   taken-row : (p : Option ℕ) (k : ℕ)
       → take-row mode (so-far p k rs ms) r (find rs (matched ms (r .from)) (r .terminal))
-        ≡ then (one-row mode rs ms r) (λ w. accept (after p k ms r w))
+      ≡ then (one-row mode rs ms r) (λ w. accept (after p k ms r w))
   taken-row p k = row-is mode p k rs ms r (find rs (matched ms (r .from)) (r .terminal)) above
 
   rows-step : (p : Option ℕ) (k : ℕ) (rest : List Row) → take-rows mode (so-far p k rs ms) (r ∷ rest)
@@ -106,9 +106,9 @@ match-on mode a pB p k D rs ms r w i nx e =
     let (x, e₁, e₂) = i .match v y at in
     let e₃ : x .state ≡ matched ms (r .from) = e₂ ∙ ap (matched ms) is in
     invert (after p k ms r w)
-      (row-step mode a pB D u i r nx v y at is x e₁ e₃ (find rs (matched ms (r .from)) (r .terminal))
-        (ap (λ (s : ℕ). find rs s (r .terminal)) e₃))
-      (row-accepted mode rs ms (i .tree) r w e p k)
+    (row-step mode a pB D u i r nx v y at is x e₁ e₃ (find rs (matched ms (r .from)) (r .terminal))
+    (ap (λ (s : ℕ). find rs s (r .terminal)) e₃))
+    (row-accepted mode rs ms (i .tree) r w e p k)
 
 pub first-row : {D : List Row} {r : Row} {rs : List Row} → Ordered D (r ∷ rs) → Next D r × Ordered (D ++ (r ∷ [])) rs
 first-row (next nx o) = (nx, o)

@@ -4,12 +4,13 @@ pub mod scan;
 pub mod taking;
 
 use meet::Meet;
-use paper::{Making, Mode, Refusal};
+use paper::Making;
+use paper::Mode;
+use paper::Refusal;
 use rows::numbers;
 use rows::verdict::Verdict;
 use scan::Scan;
 use taking::Union;
-
 ghost use Prim.Native.Nat.{_≤_};
 ghost use lib.ListN.{length};
 ghost use Rattle.paper.specs.Rows.{rows-in, table};

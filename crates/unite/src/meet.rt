@@ -1,6 +1,6 @@
 // The productions that one state has in the two tables, as codes.
-use paper::{Mode, Production};
-
+use paper::Mode;
+use paper::Production;
 ghost use mathlib.Core.Path.{_≡_};
 ghost use Prim.Native.Nat.{_≤_};
 ghost use Rattle.paper.specs.Unite.{agree, taken, root, united-k};

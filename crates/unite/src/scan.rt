@@ -1,10 +1,11 @@
 // The rows of the second looked up in the first alone: whether two productions clash.
 use crate::meet;
 use crate::meet::Meet;
-use paper::{Mode, Production, Terminal};
+use paper::Mode;
+use paper::Production;
+use paper::Terminal;
 use rows::numbers;
 use rows::search::Found;
-
 ghost use Prim.Native.Nat.{_/_, _<_, _≤_};
 ghost use lib.ListN.{length};
 ghost use Rattle.paper.specs.Rows.{rows-in};

@@ -1,10 +1,12 @@
 // The rows of the second table taken into the rows of an array, in order.
 use crate::meet;
 use crate::meet::Meet;
-use paper::{Mode, Production, State, Terminal};
+use paper::Mode;
+use paper::Production;
+use paper::State;
+use paper::Terminal;
 use rows::numbers;
 use rows::search::Found;
-
 ghost use Prim.Native.Nat.{_≤_};
 ghost use Rattle.paper.specs.Rows.{find, rows-in};
 ghost use Rattle.rows.specs.Places.{uncoded};

@@ -31,7 +31,7 @@ returns c =
     let s = c .before .before .before .before in
     let a = s .args in
     refused-lengths (a .production) (a .tokens .now) (a .lengths .now) (length (a .out .now)) (a .out .now)
-      (sym (c .before .lengths .ensures) ∙ c .if1 .taken)
+    (sym (c .before .lengths .ensures) ∙ c .if1 .taken)
 
 -- src/lib.rt:45:8
 range-requires : tie.Need-range-requires
@@ -47,7 +47,7 @@ ranged : (c : tie.After-range) {b : Bool} → let a = c .before .before .before 
 ranged c e =
     let s = c .before .before .before .before .before in
     sym (c .range .ensures ∙ ap (λ (z : ℤ). build-range z (s .args .lengths .now))
-        (same (s .args .production) (s .fits .production)))
+    (same (s .args .production) (s .fits .production)))
     ∙ e
 
 -- src/lib.rt:46:9
@@ -57,7 +57,7 @@ returns-2 c =
     let s = e .before .before .before .before in
     let a = s .args in
     refused-range (a .production) (a .tokens .now) (a .lengths .now) (length (a .out .now)) (a .out .now)
-      (first-left e) (ranged (c .before) (c .if2 .taken))
+    (first-left e) (ranged (c .before) (c .if2 .taken))
 
 -- src/lib.rt:48:13
 natural-requires : tie.Need-natural-requires
@@ -81,7 +81,7 @@ written-requires c κs =
     let s = e .before .before .before .before in
     let a = s .args in
     sane (a .production) (a .tokens .now) (a .lengths .now) (length (a .out .now)) (first-left e)
-      (ranged r (n .before .if2 .left))
+    (ranged r (n .before .if2 .left))
 
 -- src/lib.rt:38:1
 same-length : tie.Need-same-length
@@ -96,9 +96,9 @@ returns-3 c =
     let s = e .before .before .before .before in
     let a = s .args in
     accepted (a .production) (a .tokens .now) (a .lengths .now) (length (a .out .now)) (a .out .now) (first-left e)
-      (ranged r (n .before .if2 .left)) _
-      (read-passed natural (a .production) _ (s .fits .production) (n .natural .ensures) .is) _ _
-      (c .before .written .ensures)
+    (ranged r (n .before .if2 .left)) _
+    (read-passed natural (a .production) _ (s .fits .production) (n .natural .ensures) .is) _ _
+    (c .before .written .ensures)
 
 pub build-spec : {M : Type 1} → statement M
 build-spec =

@@ -35,8 +35,8 @@ slice-aggregate-finish c = search needs
 -- the table that the array holds
 holds : (c : tie.After-known-told) → let s = c .before .before .before .before .before .before .before .before in
     Holds (c .before .before .before .before .add-strings .last .0) (c .before .made .given .0 .0)
-      (c .before .made .given .0 .1 .0) (c .before .made .given .0 .1 .1 .0)
-      (built (s .args .production .0) (strings (s .args .lengths .now) (s .args .tokens .now)))
+    (c .before .made .given .0 .1 .0) (c .before .made .given .0 .1 .1 .0)
+    (built (s .args .production .0) (strings (s .args .lengths .now) (s .args .tokens .now)))
 holds c = rw (c .before .made .given .1) at (c .before .before .before .before .add-strings .ensures)
 
 -- src/lib.rt:25:42
@@ -51,8 +51,8 @@ returns : tie.Need-returns
 returns c =
     let s = c .before .before .before .before .before .before .before in
     answers-full (built (s .args .production .0) (strings (s .args .lengths .now) (s .args .tokens .now)))
-        (s .args .out .now)
-      (rw (c .enum-told .given .1) at (c .before .before .before .add-strings .ensures))
+    (s .args .out .now)
+    (rw (c .enum-told .given .1) at (c .before .before .before .add-strings .ensures))
 
 -- src/lib.rt:16:1
 same-length : tie.Need-same-length
@@ -64,8 +64,8 @@ returns-2 c =
     let h = c .before .before .before .before in
     let s = h .before .before .before .before .before .before .before .before in
     makes-as (built (s .args .production .0) (strings (s .args .lengths .now) (s .args .tokens .now))) _ _ _ _
-        (holds h .is)
-      (c .before .finish .ensures)
+    (holds h .is)
+    (c .before .finish .ensures)
 
 pub written-spec : {M : Type 1} → statement M
 written-spec =

@@ -46,9 +46,10 @@ insert-row-requires : tie.Need-insert-row-requires
 insert-row-requires c κs =
     let s = c .before .before .before .before .before .before .before in
     let a = s .args in
-    let p = s .pre in
-    (place-within (a .buf .now) (a .n) (a .i) (a .s .0) (a .t .0) (a .code) p,
-     omega (arith, p .more, p .laid .room))
+    let p = s .pre in (
+      place-within (a .buf .now) (a .n) (a .i) (a .s .0) (a .t .0) (a .code) p,
+      omega (arith, p .more, p .laid .room),
+    )
 
 -- src/lib.rt:56:1
 same-length : tie.Need-same-length
@@ -62,13 +63,13 @@ returns c =
     let a = s .args in
     let p = s .pre in
     added (a .buf .now) (a .n) (a .i) (a .s .0) (a .t .0) (a .code) p (c .before .insert-row .last .0)
-      (c .before .insert-row .ensures
-      ∙ insert-same (a .buf .now) (a .n) (a .i)
-        (passed-number _ (a .s .0) (d .before .before .before .before .number-of .ensures) (omega (arith, p .from)))
-        (passed-number _ (a .t .0) (d .before .before .number-of2 .ensures) (p .terminal))
-        (passed-number _ _ (d .before .number-of3 .ensures) (omega (arith, p .more)) ∙ ap pos (add-one (a .n)))
-        (passed-production _ (a .code) (d .production-of .ensures) (p .production)))
-      (c .before .insert-row .kept .0)
+    (c .before .insert-row .ensures
+    ∙ insert-same (a .buf .now) (a .n) (a .i)
+    (passed-number _ (a .s .0) (d .before .before .before .before .number-of .ensures) (omega (arith, p .from)))
+    (passed-number _ (a .t .0) (d .before .before .number-of2 .ensures) (p .terminal))
+    (passed-number _ _ (d .before .number-of3 .ensures) (omega (arith, p .more)) ∙ ap pos (add-one (a .n)))
+    (passed-production _ (a .code) (d .production-of .ensures) (p .production)))
+    (c .before .insert-row .kept .0)
 
 pub add-spec : {M : Type 1} → statement M
 add-spec =

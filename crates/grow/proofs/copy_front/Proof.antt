@@ -54,12 +54,13 @@ loop-again c =
     let l = c .before .before in
     let a = l .before .args in
     let i = l .loop .i in
-    let v = getD (a .src .now) i (pos 0) in
-    (omega arith,
-     simp length-set (l .loop .inv .1),
-     ap (λ (m : List ℤ). set m i (toZ w32 (ofZ w32 v))) (l .loop .inv .2)
-     ∙ ap (set (part (a .src .now) (a .out .now) i) i) (back v (c .out .given))
-     ∙ part-next (a .src .now) (a .out .now) i (pos 0) (c .before .loop-test .taken) (omega arith))
+    let v = getD (a .src .now) i (pos 0) in (
+      omega arith,
+      simp length-set (l .loop .inv .1),
+      ap (λ (m : List ℤ). set m i (toZ w32 (ofZ w32 v))) (l .loop .inv .2)
+          ∙ ap (set (part (a .src .now) (a .out .now) i) i) (back v (c .out .given))
+          ∙ part-next (a .src .now) (a .out .now) i (pos 0) (c .before .loop-test .taken) (omega arith),
+    )
 
 -- src/lib.rt:80:1
 same-length : tie.Need-same-length Inv-loop μ-loop

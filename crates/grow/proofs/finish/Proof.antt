@@ -26,8 +26,12 @@ slice-aggregate-copy-front c =
 copy-front-requires : tie.Need-copy-front-requires
 copy-front-requires c κs =
     let s = c .before .before in
-    omega (arith, held-numbers (s .args .buf .now) (s .args .n) (room (s .args .buf .now) (s .args .n) (s .pre .0)),
-      s .pre .0 .few, s .pre .2)
+    omega (
+      arith,
+      held-numbers (s .args .buf .now) (s .args .n) (room (s .args .buf .now) (s .args .n) (s .pre .0)),
+      s .pre .0 .few,
+      s .pre .2,
+    )
 
 -- src/lib.rt:96:16
 production-of-requires : tie.Need-production-of-requires
@@ -48,7 +52,7 @@ returns c =
     let s = f .before .before .before in
     let a = s .args in
     answers (a .buf .now) (a .n) (a .code) (a .k) (s .pre .0) _ (a .out .now) _
-      (passed-production _ (a .code) (c .production-of .ensures) (s .pre .1)) (f .copy-front .ensures)
+    (passed-production _ (a .code) (c .production-of .ensures) (s .pre .1)) (f .copy-front .ensures)
 
 pub finish-spec : {M : Type 1} → statement M
 finish-spec =

@@ -41,9 +41,9 @@ returns c =
     let s = c .before in
     let a = s .args in
     given (a .buf .now) (a .n) (a .i) (a .code) (s .pre) _
-      (ap (set (a .buf .now) (a .i * 4 + 3))
-          (passed-production _ (a .code) (c .production-of .ensures) (s .pre .production)))
-      (simp length-set)
+    (ap (set (a .buf .now) (a .i * 4 + 3))
+    (passed-production _ (a .code) (c .production-of .ensures) (s .pre .production)))
+    (simp length-set)
 
 pub give-spec : {M : Type 1} → statement M
 give-spec =

@@ -32,7 +32,7 @@ returns c =
     let a = s .args in
     c .before .put-row .ensures
     ∙ over-same (a .p) (o .open-rows .ensures) (same (a .w) (s .fits .w)) (same (a .x) (s .fits .x))
-      (same (a .y) (s .fits .y)) (same (a .z) (s .fits .z))
+    (same (a .y) (s .fits .y)) (same (a .z) (s .fits .z))
     ∙ fill (a .buf .now) (a .n) (s .pre .1) (a .p) (a .w) (a .x) (a .y) (a .z) (s .pre .0)
 
 pub insert-row-spec : {M : Type 1} → statement M

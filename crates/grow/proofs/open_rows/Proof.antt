@@ -43,11 +43,14 @@ loop-again c =
     let b = s .args .buf .now in
     let n = s .args .n in
     let k = l .loop .i - 1 in
-    let e : l .loop .i ≡ k + 1 = omega arith in
-    (search needs, search needs, c .before .move-row .kept .0 ∙ l .loop .inv .2,
-     c .before .move-row .ensures
-     ∙ ap (λ (m : List ℤ). up-row m k) (l .loop .inv .3 ∙ ap (opened b n) e)
-     ∙ open-step b n (s .pre .1) k (omega arith))
+    let e : l .loop .i ≡ k + 1 = omega arith in (
+      search needs,
+      search needs,
+      c .before .move-row .kept .0 ∙ l .loop .inv .2,
+      c .before .move-row .ensures
+          ∙ ap (λ (m : List ℤ). up-row m k) (l .loop .inv .3 ∙ ap (opened b n) e)
+          ∙ open-step b n (s .pre .1) k (omega arith),
+    )
 
 -- src/lib.rt:39:1
 same-length : tie.Need-same-length Inv-loop μ-loop

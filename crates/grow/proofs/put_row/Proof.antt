@@ -79,7 +79,7 @@ returns c =
     let a = c .args in
     stored (a .buf .now) (a .i) _ _ _ _ (c .pre)
     ∙ over-same (a .i) refl (same (a .w) (c .fits .w)) (same (a .x) (c .fits .x))
-      (same (a .y) (c .fits .y)) (same (a .z) (c .fits .z))
+    (same (a .y) (c .fits .y)) (same (a .z) (c .fits .z))
 
 pub put-row-spec : {M : Type 1} → statement M
 put-row-spec =

@@ -26,7 +26,7 @@ returns c =
     let s = c .before .before .before .before .before in
     let a = s .args in
     clash-refuses (a .mode) (rows-in (a .a .now)) (rows-in (a .b .now)) _ _
-      (rw (c .before .found .given .1) at (c .before .before .before .clash .ensures))
+    (rw (c .before .found .given .1) at (c .before .before .before .clash .ensures))
 
 -- src/lib.rt:24:1
 returns-2 : tie.Need-returns-2
@@ -34,7 +34,7 @@ returns-2 c =
     let s = c .before .before .before .before in
     let a = s .args in
     full-refuses (a .mode) (rows-in (a .a .now)) (rows-in (a .b .now)) (s .pre .2)
-      (rw (c .enum-told .given .1) at (c .before .before .clash .ensures))
+    (rw (c .enum-told .given .1) at (c .before .before .clash .ensures))
 
 pub full-spec : {M : Type 1} → statement M
 full-spec = tie.close (tie.spec clash-requires enum-known-found enum-told returns returns-2)

@@ -38,26 +38,28 @@ long c = omega (arith, c .copy-front .kept .1 .0)
 
 ended : (c : tie.After-take-rows) (x : Union) → c .take-rows .result ≡ x
     → let a = c .before .before .before .before .before .before .args in
-      United-rows (a .mode) (rows-in (a .a .now)) (rows-in (a .b .now)) (c .take-rows .last .1 .0) x
+    United-rows (a .mode) (rows-in (a .a .now)) (rows-in (a .b .now)) (c .take-rows .last .1 .0) x
 ended c x e =
     let f = c .before .before .before .before in
     let s = f .before .before in
     let a = s .args in
     union-as (a .mode) (rows-in (a .b .now)) (c .take-rows .last .1 .0)
-      (copied-rows (a .a .now) _ (f .copy-front .last .1 .0) (s .pre .0) (f .copy-front .ensures) (long f)) e
-      (c .take-rows .ensures)
+    (copied-rows (a .a .now) _ (f .copy-front .last .1 .0) (s .pre .0) (f .copy-front .ensures) (long f)) e
+    (c .take-rows .ensures)
 
 -- src/lib.rt:45:9
 take-rows-requires : tie.Need-take-rows-requires
 take-rows-requires c κs =
     let f = c .before .before .before in
     let s = f .before .before in
-    let a = s .args in
-    (copied-laid (a .a .now) _ (f .copy-front .last .1 .0) (s .pre .0) (f .copy-front .ensures) (long f),
-     subst Tree (sym (copied-rows (a .a .now) _ (f .copy-front .last .1 .0) (s .pre .0) (f .copy-front .ensures)
-         (long f)))
-       (s .pre .0 .tree),
-     s .pre .1, clear)
+    let a = s .args in (
+      copied-laid (a .a .now) _ (f .copy-front .last .1 .0) (s .pre .0) (f .copy-front .ensures) (long f),
+      subst Tree (sym (copied-rows (a .a .now) _ (f .copy-front .last .1 .0) (s .pre .0) (f .copy-front .ensures)
+          (long f)))
+          (s .pre .0 .tree),
+      s .pre .1,
+      clear,
+    )
 
 -- src/lib.rt:47:22
 enum-known-union : tie.Need-enum-known-union
@@ -97,7 +99,7 @@ returns c =
     let s = t .before .before .before .before .before .before in
     let a = s .args in
     clash-refuses (a .mode) (rows-in (a .a .now)) (rows-in (a .b .now)) _ _ (ended t _ (c .before .union .given .1))
-      .is (uncoded (a .code)) (a .k) (a .out .now)
+    .is (uncoded (a .code)) (a .k) (a .out .now)
 
 -- src/lib.rt:37:1
 returns-2 : tie.Need-returns-2
@@ -118,7 +120,7 @@ returns-3 c =
     let s = t .before .before .before .before .before .before in
     let a = s .args in
     rows-make (a .mode) (rows-in (a .a .now)) (rows-in (a .b .now)) _ _ (a .code) (a .k)
-      (ended t _ (k .before .union2 .given .1)) _ _ _ (c .before .finish .ensures)
+    (ended t _ (k .before .union2 .given .1)) _ _ _ (c .before .finish .ensures)
 
 pub joined-spec : {M : Type 1} → statement M
 joined-spec =

@@ -6,8 +6,14 @@ use Rattle.paper.specs.Rows.{table}
 use Rattle.paper.specs.Checks.{row-slice}
 use Rattle.rows.proofs.Signed.{same}
 use Rattle.unite.proofs.Passing.{sized}
-use Rattle.unite.proofs.Outcomes.{first-refused, second-refused, room-refused, all-checks, checks-refuse,
-    checks-pass}
+use Rattle.unite.proofs.Outcomes.{
+  first-refused,
+  second-refused,
+  room-refused,
+  all-checks,
+  checks-refuse,
+  checks-pass,
+}
 use Rattle.unite.proofs.Outcomes.{judges-as, passes-as, second-as}
 use borrow.Author.Needs.{needs}
 use Rattle.unite.proofs.unite.Statement.{statement}
@@ -28,8 +34,8 @@ returns c =
     let s = c .before .before in
     let a = s .args in
     first-refused (a .mode) (a .prod0a) (a .ka) (a .a .now) (a .prod0b) (a .kb) (a .b .now) (length (a .out .now))
-        (a .out .now)
-      (sym (c .before .row-slice .ensures) ∙ c .if1 .taken)
+    (a .out .now)
+    (sym (c .before .row-slice .ensures) ∙ c .if1 .taken)
 
 -- src/lib.rt:115:8
 row-slice-requires-2 : tie.Need-row-slice-requires-2
@@ -49,8 +55,8 @@ returns-2 c =
     let s = e .before .before in
     let a = s .args in
     second-refused (a .mode) (a .prod0a) (a .ka) (a .a .now) (a .prod0b) (a .kb) (a .b .now) (length (a .out .now))
-        (a .out .now)
-      (first-left e) (sym (c .before .row-slice2 .ensures) ∙ c .if2 .taken)
+    (a .out .now)
+    (first-left e) (sym (c .before .row-slice2 .ensures) ∙ c .if2 .taken)
 
 -- src/lib.rt:119:9
 returns-3 : tie.Need-returns-3
@@ -59,8 +65,8 @@ returns-3 c =
     let s = e .before .before .before .before in
     let a = s .args in
     room-refused (a .mode) (a .prod0a) (a .ka) (a .a .now) (a .prod0b) (a .kb) (a .b .now) (length (a .out .now))
-        (a .out .now)
-      (first-left (e .before .before)) (second-left e) (c .if3 .taken)
+    (a .out .now)
+    (first-left (e .before .before)) (second-left e) (c .if3 .taken)
 
 -- src/lib.rt:121:9
 tree-requires : tie.Need-tree-requires
@@ -83,13 +89,15 @@ with-second-requires c κs =
     let t = d .before .before in
     let e = t .before .before in
     let s = e .before .before .before .before in
-    let a = s .args in
-    (passes-as (a .ka) (a .a .now) (sym (same (a .prod0a) (s .fits .prod0a))) (record {
-       sized = sized (a .a .now) (first-left (e .before .before));
-       judged = judges-as (a .ka) (a .a .now) (same (a .prod0a) (s .fits .prod0a)) (d .enum-told .given .1)
-           (t .tree .ensures);
-     }),
-     sized (a .b .now) (second-left e), t .before .if3 .left)
+    let a = s .args in (
+      passes-as (a .ka) (a .a .now) (sym (same (a .prod0a) (s .fits .prod0a))) (record {
+        sized = sized (a .a .now) (first-left (e .before .before));
+        judged = judges-as (a .ka) (a .a .now) (same (a .prod0a) (s .fits .prod0a)) (d .enum-told .given .1)
+            (t .tree .ensures);
+      }),
+      sized (a .b .now) (second-left e),
+      t .before .if3 .left,
+    )
 
 -- src/lib.rt:99:1
 returns-4 : tie.Need-returns-4
@@ -99,11 +107,11 @@ returns-4 c =
     let s = e .before .before .before .before in
     let a = s .args in
     all-checks (a .mode) (a .prod0a) (a .ka) (a .a .now) (a .prod0b) (a .kb) (a .b .now) (length (a .out .now))
-        (a .out .now)
-      (first-left (e .before .before)) (second-left e) (t .before .if3 .left) _ _
-      (checks-refuse (table (a .prod0a) (a .ka) (a .a .now)) _ (a .out .now) _
-        (judges-as (a .ka) (a .a .now) (same (a .prod0a) (s .fits .prod0a)) (c .before .verdict .given .1)
-            (t .tree .ensures)))
+    (a .out .now)
+    (first-left (e .before .before)) (second-left e) (t .before .if3 .left) _ _
+    (checks-refuse (table (a .prod0a) (a .ka) (a .a .now)) _ (a .out .now) _
+    (judges-as (a .ka) (a .a .now) (same (a .prod0a) (s .fits .prod0a)) (c .before .verdict .given .1)
+    (t .tree .ensures)))
 
 -- src/lib.rt:99:1
 same-length : tie.Need-same-length
@@ -118,14 +126,14 @@ returns-5 c =
     let s = e .before .before .before .before in
     let a = s .args in
     all-checks (a .mode) (a .prod0a) (a .ka) (a .a .now) (a .prod0b) (a .kb) (a .b .now) (length (a .out .now))
-        (a .out .now)
-      (first-left (e .before .before)) (second-left e) (t .before .if3 .left) _ _
-      (checks-pass (table (a .prod0a) (a .ka) (a .a .now)) _ (a .out .now)
-        (judges-as (a .ka) (a .a .now) (same (a .prod0a) (s .fits .prod0a)) (d .enum-told .given .1)
-            (t .tree .ensures)) _ _
-        (second-as (a .mode) (a .ka) (a .kb) (a .a .now) (a .b .now) _ (a .out .now) _
-            (same (a .prod0a) (s .fits .prod0a))
-          (same (a .prod0b) (s .fits .prod0b)) (c .before .with-second .ensures)))
+    (a .out .now)
+    (first-left (e .before .before)) (second-left e) (t .before .if3 .left) _ _
+    (checks-pass (table (a .prod0a) (a .ka) (a .a .now)) _ (a .out .now)
+    (judges-as (a .ka) (a .a .now) (same (a .prod0a) (s .fits .prod0a)) (d .enum-told .given .1)
+    (t .tree .ensures)) _ _
+    (second-as (a .mode) (a .ka) (a .kb) (a .a .now) (a .b .now) _ (a .out .now) _
+    (same (a .prod0a) (s .fits .prod0a))
+    (same (a .prod0b) (s .fits .prod0b)) (c .before .with-second .ensures)))
 
 pub unite-spec : {M : Type 1} → statement M
 unite-spec =

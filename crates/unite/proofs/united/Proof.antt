@@ -53,9 +53,10 @@ rooted c x e =
 root-requires : tie.Need-root-requires
 root-requires c κs =
     let s = c .before .before in
-    let a = s .args in
-    (omega (arith, first-code (c .before), prod0-in (a .prod0a) (a .ka) (a .a .now) (s .pre .0)),
-     omega (arith, second-code c, prod0-in (a .prod0b) (a .kb) (a .b .now) (s .pre .1)))
+    let a = s .args in (
+      omega (arith, first-code (c .before), prod0-in (a .prod0a) (a .ka) (a .a .now) (s .pre .0)),
+      omega (arith, second-code c, prod0-in (a .prod0b) (a .kb) (a .b .now) (s .pre .1)),
+    )
 
 -- src/lib.rt:70:21
 enum-known-root : tie.Need-enum-known-root
@@ -75,9 +76,12 @@ joined-requires c κs =
     let m = c .before .before .before in
     let r = m .before .before in
     let s = r .before .before .before in
-    let a = s .args in
-    (treed (a .prod0a) (a .ka) (a .a .now) (s .pre .0), treed (a .prod0b) (a .kb) (a .b .now) (s .pre .1),
-     rooted r _ (m .root3 .given .1) .0, s .pre .2)
+    let a = s .args in (
+      treed (a .prod0a) (a .ka) (a .a .now) (s .pre .0),
+      treed (a .prod0b) (a .kb) (a .b .now) (s .pre .1),
+      rooted r _ (m .root3 .given .1) .0,
+      s .pre .2,
+    )
 
 -- src/lib.rt:54:1
 returns : tie.Need-returns
@@ -86,8 +90,8 @@ returns c =
     let s = r .before .before .before in
     let a = s .args in
     root-refuses (a .mode) (table (a .prod0a) (a .ka) (a .a .now)) (table (a .prod0b) (a .kb) (a .b .now))
-        (a .out .now) _ _
-      (rooted r _ (c .before .root2 .given .1))
+    (a .out .now) _ _
+    (rooted r _ (c .before .root2 .given .1))
 
 -- src/lib.rt:54:1
 same-length : tie.Need-same-length
@@ -102,8 +106,8 @@ returns-2 c =
     let s = r .before .before .before in
     let a = s .args in
     root-makes (a .mode) (table (a .prod0a) (a .ka) (a .a .now)) (table (a .prod0b) (a .kb) (a .b .now)) (a .out .now)
-        _ _
-      (rooted r _ (m .root3 .given .1) .1) (u .united-k .ensures) _ _ (c .before .joined .ensures)
+    _ _
+    (rooted r _ (m .root3 .given .1) .1) (u .united-k .ensures) _ _ (c .before .joined .ensures)
 
 pub united-spec : {M : Type 1} → statement M
 united-spec =

@@ -36,12 +36,16 @@ united-requires c κs =
     let e = c .before in
     let t = e .before .before in
     let s = t .before in
-    let a = s .args in
-    (passes-as (a .ka) (a .a .now) (sym (same (a .prod0a) (s .fits .prod0a))) (s .pre .0),
-     passes-as (a .kb) (a .b .now) (sym (same (a .prod0b) (s .fits .prod0b)))
-       (record { sized = s .pre .1; judged = judges-as (a .kb) (a .b .now) (same (a .prod0b) (s .fits .prod0b))
-         (e .enum-told .given .1) (t .tree .ensures) }),
-     s .pre .2)
+    let a = s .args in (
+      passes-as (a .ka) (a .a .now) (sym (same (a .prod0a) (s .fits .prod0a))) (s .pre .0),
+      passes-as (a .kb) (a .b .now) (sym (same (a .prod0b) (s .fits .prod0b)))
+          (record {
+            sized = s .pre .1;
+            judged = judges-as (a .kb) (a .b .now) (same (a .prod0b) (s .fits .prod0b))
+                (e .enum-told .given .1) (t .tree .ensures);
+          }),
+      s .pre .2,
+    )
 
 -- src/lib.rt:76:1
 returns : tie.Need-returns
@@ -50,8 +54,8 @@ returns c =
     let s = t .before in
     let a = s .args in
     checks-refuse (table (a .prod0b) (a .kb) (a .b .now)) _ (a .out .now) _
-      (judges-as (a .kb) (a .b .now) (same (a .prod0b) (s .fits .prod0b)) (c .before .verdict .given .1)
-          (t .tree .ensures))
+    (judges-as (a .kb) (a .b .now) (same (a .prod0b) (s .fits .prod0b)) (c .before .verdict .given .1)
+    (t .tree .ensures))
 
 -- src/lib.rt:76:1
 same-length : tie.Need-same-length
@@ -65,11 +69,11 @@ returns-2 c =
     let s = t .before in
     let a = s .args in
     checks-pass (table (a .prod0b) (a .kb) (a .b .now)) _ (a .out .now)
-      (judges-as (a .kb) (a .b .now) (same (a .prod0b) (s .fits .prod0b)) (e .enum-told .given .1) (t .tree .ensures))
-          _ _
-      (united-as (a .mode) (a .ka) (a .kb) (a .a .now) (a .b .now) _ (a .out .now) _
-          (same (a .prod0a) (s .fits .prod0a))
-        (same (a .prod0b) (s .fits .prod0b)) (c .before .united .ensures))
+    (judges-as (a .kb) (a .b .now) (same (a .prod0b) (s .fits .prod0b)) (e .enum-told .given .1) (t .tree .ensures))
+    _ _
+    (united-as (a .mode) (a .ka) (a .kb) (a .a .now) (a .b .now) _ (a .out .now) _
+    (same (a .prod0a) (s .fits .prod0a))
+    (same (a .prod0b) (s .fits .prod0b)) (c .before .united .ensures))
 
 pub with-second-spec : {M : Type 1} → statement M
 with-second-spec =

@@ -36,8 +36,8 @@ returns c = rw (c .enum-told .given .1) at (c .before .before .before .walk .ens
 -- where the walk ended
 walked : (c : tie.After-known-told) → let s = c .before .before .before .before .before .before .before in
     Stands (c .before .before .before .before .walk .last .0) (c .before .step .given .0 .0)
-      (c .before .step .given .0 .1 .0 .0) (c .before .step .given .0 .1 .1 .0)
-      (walk-in (standing (s .args .buf .now) (s .args .n) 0) (s .args .string .now))
+    (c .before .step .given .0 .1 .0 .0) (c .before .step .given .0 .1 .1 .0)
+    (walk-in (standing (s .args .buf .now) (s .args .n) 0) (s .args .string .now))
 walked c = rw (c .before .step .given .1) at (c .before .before .before .before .walk .ensures)
 
 -- src/strings.rt:115:5
@@ -45,10 +45,11 @@ mark-requires : tie.Need-mark-requires
 mark-requires c κs =
     let s = c .before .before .before .before .before .before .before .before in
     let w = standing (s .args .buf .now) (s .args .n) 0 in
-    let e = walked (c .before) in
-    (e .laid,
-     subst (λ (v : Standing). Tree (v .rows)) (sym (e .is)) (walk-tree w (s .args .string .now) refl (s .pre .1)),
-     e .leads)
+    let e = walked (c .before) in (
+      e .laid,
+      subst (λ (v : Standing). Tree (v .rows)) (sym (e .is)) (walk-tree w (s .args .string .now) refl (s .pre .1)),
+      e .leads,
+    )
 
 -- src/strings.rt:107:1
 same-length-2 : tie.Need-same-length-2
@@ -60,7 +61,7 @@ returns-2 c =
     let d = c .before .before .before in
     let s = d .before .before .before .before .before .before .before in
     marked (s .args .buf .now) _ _ (s .args .n) _ _ _ (s .args .production .0) (s .args .string .now) (walked d)
-      (c .before .mark .ensures)
+    (c .before .mark .ensures)
 
 pub add-string-spec : {M : Type 1} → statement M
 add-string-spec =

@@ -29,9 +29,11 @@ first-code-requires c κs = tt
 loop-holds : tie.Need-loop-holds Inv-loop μ-loop
 loop-holds c =
     let s = c .before .before .before in
-    let a = s .args in
-    (refl, lists-all (a .production .0) (a .tokens .now) (a .lengths .now) (a .buf .now) _ (s .pre .0) (s .pre .1)
-      (c .first-code .ensures))
+    let a = s .args in (
+      refl,
+      lists-all (a .production .0) (a .tokens .now) (a .lengths .now) (a .buf .now) _ (s .pre .0) (s .pre .1)
+          (c .first-code .ensures),
+    )
 
 -- src/strings.rt:164:19
 mul-len : tie.Need-mul-len Inv-loop μ-loop
@@ -48,7 +50,7 @@ fits c =
     let l = c .before .before in
     let a = l .before .before .before .before .args in
     len-fits (a .production .0) (a .tokens .now) (a .lengths .now) (l .loop .buf) (l .loop .rest .now) (l .loop .n)
-      (l .loop .code) (l .loop .k) (l .loop .i) (l .loop .inv .1) (omega arith)
+    (l .loop .code) (l .loop .k) (l .loop .i) (l .loop .inv .1) (omega arith)
 
 -- src/strings.rt:165:39
 slice-aggregate-add-string : tie.Need-slice-aggregate-add-string Inv-loop μ-loop
@@ -82,8 +84,8 @@ returns c =
     let l = e .before .before .before .before .before in
     let a = l .before .before .before .before .args in
     lists-full (a .production .0) (a .tokens .now) (a .lengths .now) (l .loop .buf) (l .loop .rest .now) (l .loop .n)
-      (l .loop .code) (l .loop .k) (l .loop .i) (l .loop .inv .1) (omega arith)
-      (rw (c .enum-told .given .1) at (e .add-string .ensures))
+    (l .loop .code) (l .loop .k) (l .loop .i) (l .loop .inv .1) (omega arith)
+    (rw (c .enum-told .given .1) at (e .add-string .ensures))
 
 -- src/strings.rt:170:9
 next-code-requires : tie.Need-next-code-requires Inv-loop μ-loop
@@ -134,13 +136,14 @@ loop-again c =
     let e = r .before .before .before .before .before .before in
     let l = e .before .before .before .before .before in
     let a = l .before .before .before .before .args in
-    let len = getD (a .lengths .now) (l .loop .i) 0 in
-    (e .add-string .kept .0 ∙ l .loop .inv .0,
-     rw (r .larger .ensures)
-       (lists-next (a .production .0) (a .tokens .now) (a .lengths .now) (l .loop .buf) (l .loop .rest .now)
-           (l .loop .n)
-         (l .loop .code) (l .loop .k) (l .loop .i) (l .loop .inv .1) (omega arith) _ _ _ _
-         (rw (r .before .before .before .step .given .1) at (e .add-string .ensures)) (r .before .next-code .ensures)))
+    let len = getD (a .lengths .now) (l .loop .i) 0 in (
+      e .add-string .kept .0 ∙ l .loop .inv .0,
+      rw (r .larger .ensures)
+          (lists-next (a .production .0) (a .tokens .now) (a .lengths .now) (l .loop .buf) (l .loop .rest .now)
+          (l .loop .n)
+          (l .loop .code) (l .loop .k) (l .loop .i) (l .loop .inv .1) (omega arith) _ _ _ _
+          (rw (r .before .before .before .step .given .1) at (e .add-string .ensures)) (r .before .next-code .ensures)),
+    )
 
 -- src/strings.rt:148:1
 same-length-2 : tie.Need-same-length-2 Inv-loop μ-loop
@@ -152,7 +155,7 @@ returns-2 c =
     let l = c .before in
     let a = l .before .before .before .before .args in
     listed (a .production .0) (a .tokens .now) (a .lengths .now) (l .loop .buf) (l .loop .rest .now) (l .loop .n)
-      (l .loop .code) (l .loop .k) (l .loop .i) (l .loop .inv .1) (c .loop-test .left)
+    (l .loop .code) (l .loop .k) (l .loop .i) (l .loop .inv .1) (c .loop-test .left)
 
 pub add-strings-spec : {M : Type 1} → statement M
 add-strings-spec =

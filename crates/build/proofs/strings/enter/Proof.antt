@@ -49,7 +49,7 @@ enum-known-found c = search needs
 -- the row that the search found, or its place
 there : (c : tie.After-known-told) → let s = c .before .before .before .before .before .before .before in
     Finds (take (s .args .n * 4) (s .args .buf .now)) (s .args .state .0) (s .args .token .0)
-      (At (c .before .found .given .0 .0))
+    (At (c .before .found .given .0 .0))
 there c = rw (c .before .found .given .1) at (c .before .before .before .find .ensures)
 
 below : (c : tie.After-known-told) → let s = c .before .before .before .before .before .before .before in
@@ -60,7 +60,7 @@ below c =
 
 missed : (c : tie.After-known-told2) → let s = c .before .before .before .before .before .before .before in
     Finds (take (s .args .n * 4) (s .args .buf .now)) (s .args .state .0) (s .args .token .0)
-      (Missing (c .before .found2 .given .0 .0))
+    (Missing (c .before .found2 .given .0 .0))
 missed c = rw (c .before .found2 .given .1) at (c .before .before .before .find .ensures)
 
 -- src/strings.rt:58:22
@@ -75,8 +75,11 @@ cast-to : tie.Need-cast-to
 cast-to c =
     let s = c .before .before .before .before .before .before .before .before .before in
     let h = below (c .before .before) in
-    omega (arith, to-read (s .args .buf .now) (s .args .n) _ _ (s .pre .0) h (c .to-at .ensures .is),
-      to-small (s .args .buf .now) (s .args .n) _ (s .pre .0) h)
+    omega (
+      arith,
+      to-read (s .args .buf .now) (s .args .n) _ _ (s .pre .0) h (c .to-at .ensures .is),
+      to-small (s .args .buf .now) (s .args .n) _ (s .pre .0) h,
+    )
 
 -- src/strings.rt:62:21
 add-t15 : tie.Need-add-t15
@@ -106,8 +109,8 @@ returns c =
     let s = c .before .before .before .before .before .before .before .before .before in
     let h = below (c .before .before) in
     goes (s .args .buf .now) (s .args .n) (s .args .state .0) (s .args .token .0) _ _ (s .pre .0) h
-      (there (c .before .before) .1)
-          (to-read (s .args .buf .now) (s .args .n) _ _ (s .pre .0) h (c .to-at .ensures .is))
+    (there (c .before .before) .1)
+    (to-read (s .args .buf .now) (s .args .n) _ _ (s .pre .0) h (c .to-at .ensures .is))
 
 -- src/strings.rt:51:1
 same-length-2 : tie.Need-same-length-2

@@ -12,7 +12,7 @@ returns : tie.Need-returns
 returns c =
     let s = c .before in
     overflows (s .args .buf .now) (s .args .n) (s .args .state .0) (s .args .token .0) (s .args .i) (s .pre)
-        (c .if1 .taken)
+    (c .if1 .taken)
 
 -- src/strings.rt:42:5
 add-requires : tie.Need-add-requires
@@ -43,7 +43,7 @@ returns-2 : tie.Need-returns-2
 returns-2 c =
     let s = c .before .before .before .before in
     grows (s .args .buf .now) (s .args .n) (s .args .state .0) (s .args .token .0) (s .args .i) _ (s .pre)
-      (c .before .add .ensures)
+    (c .before .add .ensures)
 
 pub grown-spec : {M : Type 1} → statement M
 grown-spec =

@@ -12,7 +12,7 @@ returns : tie.Need-returns
 returns c =
     let s = c .before in
     mark-root (s .args .buf .now) (s .args .n) (s .args .state .0) (s .args .at) (s .args .production .0) (s .pre .0)
-      (s .pre .1) (s .pre .2) (c .if1 .taken)
+    (s .pre .1) (s .pre .2) (c .if1 .taken)
 
 -- src/strings.rt:103:24
 sub-give : tie.Need-sub-give
@@ -31,7 +31,7 @@ give-requires : tie.Need-give-requires
 give-requires c κs =
     let s = c .before .before .before in
     giving (s .args .buf .now) (s .args .n) (s .args .state .0) (s .args .at) (s .args .production .0) (s .pre .0)
-      (s .pre .1) (s .pre .2) (c .before .before .if1 .left) (omega arith)
+    (s .pre .1) (s .pre .2) (c .before .before .if1 .left) (omega arith)
 
 -- src/strings.rt:96:1
 same-length : tie.Need-same-length
@@ -42,7 +42,7 @@ returns-2 : tie.Need-returns-2
 returns-2 c =
     let s = c .before .before .before .before .before in
     mark-row (s .args .buf .now) (s .args .n) (s .args .state .0) (s .args .at) (s .args .production .0) (s .pre .0)
-      (s .pre .1) (s .pre .2) (c .before .before .before .before .if1 .left) _ (c .before .give .ensures)
+    (s .pre .1) (s .pre .2) (c .before .before .before .before .if1 .left) _ (c .before .give .ensures)
 
 pub mark-spec : {M : Type 1} → statement M
 mark-spec =

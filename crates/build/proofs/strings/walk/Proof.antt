@@ -60,7 +60,7 @@ returns c =
     let l = e .before .before .before .before in
     let a = l .before .before .args in
     walk-full (standing (a .buf .now) (a .n) 0) (a .string .now) (l .loop .buf) (l .loop .m) (l .loop .s .0)
-      (l .loop .row) (l .loop .i) (l .loop .inv .1) (omega arith) (rw (c .enum-told .given .1) at (e .enter .ensures))
+    (l .loop .row) (l .loop .i) (l .loop .inv .1) (omega arith) (rw (c .enum-told .given .1) at (e .enter .ensures))
 
 -- src/strings.rt:86:9
 add-i : tie.Need-add-i Inv-loop μ-loop
@@ -75,11 +75,12 @@ loop-again : tie.Need-loop-again Inv-loop μ-loop
 loop-again c =
     let e = c .before .before .before .before in
     let l = e .before .before .before .before in
-    let a = l .before .before .args in
-    (e .enter .kept .0 ∙ l .loop .inv .0,
-     walk-on (standing (a .buf .now) (a .n) 0) (a .string .now) (l .loop .buf) (l .loop .m) (l .loop .s .0)
-       (l .loop .row) (l .loop .i) (l .loop .inv .1) (omega arith) _ _ _ _
-       (rw (c .before .step .given .1) at (e .enter .ensures)))
+    let a = l .before .before .args in (
+      e .enter .kept .0 ∙ l .loop .inv .0,
+      walk-on (standing (a .buf .now) (a .n) 0) (a .string .now) (l .loop .buf) (l .loop .m) (l .loop .s .0)
+          (l .loop .row) (l .loop .i) (l .loop .inv .1) (omega arith) _ _ _ _
+          (rw (c .before .step .given .1) at (e .enter .ensures)),
+    )
 
 -- src/strings.rt:70:1
 same-length-2 : tie.Need-same-length-2 Inv-loop μ-loop
@@ -91,7 +92,7 @@ returns-2 c =
     let l = c .before in
     let a = l .before .before .args in
     walk-ends (standing (a .buf .now) (a .n) 0) (a .string .now) (l .loop .buf) (l .loop .m) (l .loop .s .0)
-      (l .loop .row) (l .loop .i) (l .loop .inv .1) (c .loop-test .left)
+    (l .loop .row) (l .loop .i) (l .loop .inv .1) (c .loop-test .left)
 
 pub walk-spec : {M : Type 1} → statement M
 walk-spec =

@@ -1,7 +1,10 @@
 -- `report::lines::put_line` meets its contract. Three writings, each from where the one before it ends. Assumes nothing.
+use Prim.Native.Nat.{_+_}
+use mathlib.Core.Path.{_≡_}
 use native.Mathlib.Omega.{arith}
+use lib.ListN.{length}
 use Rattle.text.proofs.Written.{puts-on, puts-as}
-use Rattle.report.proofs.Parts.{line-parts}
+use Rattle.report.proofs.Parts.{line-parts, puts-room}
 use borrow.Author.Needs.{needs}
 use Rattle.report.proofs.lines.put_line.Statement.{statement}
 use Rattle.report.proofs.lines.put_line.Tie as tie
@@ -31,7 +34,9 @@ returns c =
     let f = g .before .before .before .before .before in
     let two = puts-on (f .put-field .ensures) (omega arith) (g .put-field2 .ensures) in
     let three = puts-on two (omega arith) (w .put-word .ensures) in
-    puts-as three (line-parts _ _ _)
+    let n = length (f .before .before .before .before .args .label .now) in
+    let room : n + 5 + 6 + 1 ≡ n + 12 = omega arith in
+    puts-room room (puts-as three (line-parts _ _ _))
 
 pub put-line-spec : {M : Type 1} → statement M
 put-line-spec =

@@ -13,7 +13,9 @@ number-requires : tie.Need-number-requires
 number-requires c κs = search needs
 
 put-field-requires : tie.Need-put-field-requires
-put-field-requires c κs = ?
+put-field-requires c κs =
+    let f = c .before .before .before .before .args .refusal in
+    (omega arith, omega (arith, c .number .ensures, number-small f))
 
 slice-aggregate-put-word : tie.Need-slice-aggregate-put-word
 slice-aggregate-put-word c = search needs
@@ -25,7 +27,13 @@ same-length : tie.Need-same-length
 same-length c = search needs
 
 returns : tie.Need-returns
-returns c = ?
+returns c =
+    let w = c .before .before in
+    let f = w .before .before .before .before .before in
+    let n = f .before .number in
+    let a = f .before .before .before .before .before .args in
+    let all = puts-on (f .put-field .ensures) (omega arith) (w .put-word .ensures) in
+    puts-as all (refused-parts (n .result) (a .refusal) (n .ensures))
 
 pub put-refused-spec : {M : Type 1} → statement M
 put-refused-spec =

@@ -19,11 +19,11 @@ use Rattle.rows.proofs.numbers.number_of.Reads as number-of-reads
 use Rattle.rows.proofs.numbers.production_of.Reads as production-of-reads
 use Rattle.rows.proofs.numbers.terminal_at.Reads as terminal-at-reads
 use Rattle.shrink.proofs.index.at.Reads as at-reads
-use Rattle.shrink.proofs.same.target.Reads as target-reads
+use Rattle.shrink.proofs.same.to_mark.Reads as to-mark-reads
 
 -- src/emit.rt:38:32
-target-requires : tie.Need-target-requires
-target-requires c κs = search needs
+to-mark-requires : tie.Need-to-mark-requires
+to-mark-requires c κs = search needs
 
 -- src/emit.rt:38:9
 at-requires : tie.Need-at-requires
@@ -33,7 +33,7 @@ at-requires c κs =
     let ns = a .rows .now in
     omega (
       arith,
-      c .target .ensures .0,
+      c .to-mark .ensures .0,
       s .pre .1 .small (row-at ns (a .i) .to) (to-state (rows-in ns) (row-at ns (a .i))
           (row-in ns (a .i) (s .pre .3))),
     )
@@ -133,7 +133,7 @@ returns c =
     let ns = a .rows .now in
     let r = new-row ns (a .class .now) (a .number .now) (a .f) (a .i) in
     let to : g .at .result ≡ r .to =
-    g .at .ensures .0 ∙ ap (λ (m : ℕ). getD (a .number .now) m 0) (t .target .ensures .0) in
+    g .at .ensures .0 ∙ ap (λ (m : ℕ). getD (a .number .now) m 0) (t .to-mark .ensures .0) in
     let fits = fit-at (s .pre .0) (a .i) (s .pre .3) in
     written-row (a .out .now) (a .o) r _ _ _ _ (s .pre .5)
     (stored (x .number-of .result) (a .f) (a .f) (x .number-of .ensures) refl (s .pre .2))
@@ -147,7 +147,7 @@ pub emit-row-spec : {M : Type 1} → statement M
 emit-row-spec =
     tie.close
     (tie.spec
-    target-requires
+    to-mark-requires
     at-requires
     mul-at
     number-of-requires

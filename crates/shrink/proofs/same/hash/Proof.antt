@@ -15,7 +15,7 @@ use Rattle.shrink.proofs.same.hash.Lts as lts
 use Rattle.rows.proofs.numbers.terminal_at.Reads as terminal-at-reads
 use Rattle.shrink.proofs.index.at.Reads as at-reads
 use Rattle.shrink.proofs.index.leaves.Reads as leaves-reads
-use Rattle.shrink.proofs.same.target.Reads as target-reads
+use Rattle.shrink.proofs.same.to_mark.Reads as to-mark-reads
 
 abbrev Inv-loop : tie.InvT-loop
 Inv-loop rows first class s h r₀ i₀ r i = Standing rows s i × (r < 65521)
@@ -60,8 +60,8 @@ add-r : tie.Need-add-r Inv-loop μ-loop
 add-r c = omega (arith, c .terminal-at .ensures)
 
 -- src/same.rt:55:59
-target-requires : tie.Need-target-requires Inv-loop μ-loop
-target-requires c κs =
+to-mark-requires : tie.Need-to-mark-requires Inv-loop μ-loop
+to-mark-requires c κs =
     let t = c .before in
     let l = t .before .before in
     let s = l .before .before in
@@ -71,7 +71,7 @@ target-requires c κs =
 
 -- src/same.rt:55:14
 add-r-2 : tie.Need-add-r-2 Inv-loop μ-loop
-add-r-2 c = omega (arith, c .target .ensures, c .before .terminal-at .ensures)
+add-r-2 c = omega (arith, c .to-mark .ensures, c .before .terminal-at .ensures)
 
 -- src/same.rt:56:9
 add-i : tie.Need-add-i Inv-loop μ-loop
@@ -105,8 +105,8 @@ loop-again c =
       omega arith,
       l .loop .inv .2 ∙ hash-next (a .rows .now) (mark-in (a .class .now)) (a .s) (l .loop .i) (l .loop .r)
           (l .loop .inv .0) e
-          (c .before .terminal-at .result) (c .target .result) (c .before .terminal-at .ensures .is)
-          (c .target .ensures .0),
+          (c .before .terminal-at .result) (c .to-mark .result) (c .before .terminal-at .ensures .is)
+          (c .to-mark .ensures .0),
     )
 
 -- src/same.rt:48:1
@@ -131,7 +131,7 @@ hash-spec =
     terminal-at-requires
     mul-r-2
     add-r
-    target-requires
+    to-mark-requires
     add-r-2
     add-i
     loop-less

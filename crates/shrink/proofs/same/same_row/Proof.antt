@@ -6,7 +6,7 @@ use Rattle.shrink.proofs.same.same_row.Tie as tie
 use Rattle.shrink.proofs.same.same_row.Reads as reads
 use Rattle.shrink.proofs.same.same_row.Lts as lts
 use Rattle.rows.proofs.numbers.terminal_at.Reads as terminal-at-reads
-use Rattle.shrink.proofs.same.target.Reads as target-reads
+use Rattle.shrink.proofs.same.to_mark.Reads as to-mark-reads
 
 -- src/same.rt:87:8
 terminal-at-requires : tie.Need-terminal-at-requires
@@ -25,12 +25,12 @@ returns c =
     rw (← x .terminal-at .ensures .is, ← y .terminal-at2 .ensures .is, ne-eqb _ _ (c .if1 .taken))
 
 -- src/same.rt:90:5
-target-requires : tie.Need-target-requires
-target-requires c κs = search needs
+to-mark-requires : tie.Need-to-mark-requires
+to-mark-requires c κs = search needs
 
 -- src/same.rt:90:31
-target-requires-2 : tie.Need-target-requires-2
-target-requires-2 c κs = search needs
+to-mark-requires-2 : tie.Need-to-mark-requires-2
+to-mark-requires-2 c κs = search needs
 
 -- src/same.rt:83:1
 returns-2 : tie.Need-returns-2
@@ -44,8 +44,8 @@ returns-2 c =
       ← x .terminal-at .ensures .is,
       ← y .terminal-at2 .ensures .is,
       eq-eqb _ _ (i .if1 .left),
-      ← t .target .ensures .0,
-      ← c .target2 .ensures .0,
+      ← t .to-mark .ensures .0,
+      ← c .to-mark2 .ensures .0,
     )
 
 pub same-row-spec : {M : Type 1} → statement M
@@ -55,6 +55,6 @@ same-row-spec =
     terminal-at-requires
     terminal-at-requires-2
     returns
-    target-requires
-    target-requires-2
+    to-mark-requires
+    to-mark-requires-2
     returns-2)

@@ -18,9 +18,11 @@ returns-2 c =
 -- src/meet.rt:28:9
 returns-3 : tie.Need-returns-3
 returns-3 c =
-    let s = c .before .before .before in
-    (s .pre .1, agree-same (s .args .p) (s .args .q) (c .before .before .if1 .left) (c .before .if2 .left)
-        (c .if3 .taken))
+    let s = c .before .before .before in (
+      s .pre .1,
+      agree-same (s .args .p) (s .args .q) (c .before .before .if1 .left) (c .before .if2 .left)
+          (c .if3 .taken),
+    )
 
 -- src/meet.rt:30:29
 sub-t4 : tie.Need-sub-t4

@@ -24,8 +24,8 @@ returns : tie.Need-returns
 returns c =
     let s = c .before .before .before in
     intake-root (s .args .mode) (uncoded (s .args .p)) (uncoded (s .args .q)) (c .before .enum-told .given .1)
-        (c .agree .result)
-      (c .agree .ensures)
+    (c .agree .result)
+    (c .agree .ensures)
 
 -- src/meet.rt:49:1
 returns-2 : tie.Need-returns-2

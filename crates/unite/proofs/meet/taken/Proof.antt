@@ -34,17 +34,19 @@ returns : tie.Need-returns
 returns c =
     let s = c .before .before .before in
     intake-taken (s .args .mode) (uncoded (s .args .p)) (uncoded (s .args .q)) (c .enum-told .given .1)
-        (c .before .before .agree .result)
-      (c .before .before .agree .ensures)
+    (c .before .before .agree .result)
+    (c .before .before .agree .ensures)
 
 -- src/meet.rt:34:1
 returns-2 : tie.Need-returns-2
 returns-2 c =
     let m = c .before .before in
     let s = m .before .before .before in
-    let h = rw (c .enum-told3 .given .1) at (m .before .before .agree .ensures) in
-    (s .pre .1, archive-taken (s .args .mode) (uncoded (s .args .p)) (uncoded (s .args .q)) (m .enum-told2 .given .1)
-        _ (h .1))
+    let h = rw (c .enum-told3 .given .1) at (m .before .before .agree .ensures) in (
+      s .pre .1,
+      archive-taken (s .args .mode) (uncoded (s .args .p)) (uncoded (s .args .q)) (m .enum-told2 .given .1)
+          _ (h .1),
+    )
 
 -- src/meet.rt:34:1
 returns-3 : tie.Need-returns-3
@@ -52,7 +54,7 @@ returns-3 c =
     let m = c .before .before .before in
     let s = m .before .before .before in
     archive-clash (s .args .mode) (uncoded (s .args .p)) (uncoded (s .args .q)) (m .enum-told2 .given .1) _
-      (rw (c .before .m .given .1) at (m .before .before .agree .ensures))
+    (rw (c .before .m .given .1) at (m .before .before .agree .ensures))
 
 pub taken-spec : {M : Type 1} → statement M
 taken-spec =

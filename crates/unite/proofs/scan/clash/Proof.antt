@@ -40,7 +40,7 @@ fitting c =
     let s = l .before in
     let a = s .args in
     scan-fit (a .mode) (rows-in (a .a .now)) (a .b .now) (l .loop .map) (l .loop .i) (l .loop .inv) (s .pre .0 .tree)
-      (few-rows (a .a .now) (s .pre .0)) (s .pre .1) (omega arith)
+    (few-rows (a .a .now) (s .pre .0)) (s .pre .1) (omega arith)
 
 abbrev in-loop : tie.After-look-up Inv-loop μ-loop → tie.In-loop Inv-loop μ-loop
 in-loop c = c .before .before .before .before .before
@@ -50,8 +50,8 @@ loop-of c = in-loop c .before
 
 came : (c : tie.After-look-up Inv-loop μ-loop) (x : Look) → c .look-up .result ≡ x
     → let l = loop-of c in let r = row-at (l .before .args .b .now) (l .loop .i) in
-      Looks (looked (l .before .args .mode) (r .production)
-        (seek (rows-in (l .before .args .a .now)) (getD (l .loop .map) (r .from) 0) (r .terminal))) x
+    Looks (looked (l .before .args .mode) (r .production)
+    (seek (rows-in (l .before .args .a .now)) (getD (l .loop .map) (r .from) 0) (r .terminal))) x
 came c x e =
     let d = c .before in
     let t = d .before in
@@ -60,8 +60,8 @@ came c x e =
     let a = l .before .args in
     let r = row-at (a .b .now) (l .loop .i) in
     looks-as (a .mode) (rows-in (a .a .now)) (ap (λ (z : ℕ). getD (l .loop .map) z 0) (f .from-at .ensures .is))
-      (t .terminal-at .ensures .is) (ap uncoded (d .code-at .ensures .is) ∙ uncoded-code (r .production)) e
-      (c .look-up .ensures)
+    (t .terminal-at .ensures .is) (ap uncoded (d .code-at .ensures .is) ∙ uncoded-code (r .production)) e
+    (c .look-up .ensures)
 
 -- src/scan.rt:64:24
 from-at-requires : tie.Need-from-at-requires Inv-loop μ-loop
@@ -105,9 +105,9 @@ returns c =
     let s = l .before in
     let a = s .args in
     scan-clashes (a .mode) (rows-in (a .a .now)) (a .b .now) (l .loop .map) (l .loop .i) (l .loop .inv)
-        (s .pre .0 .tree)
-      (few-rows (a .a .now) (s .pre .0)) (s .pre .1) (in-loop t .loop-test .taken) _ _
-          (came t _ (c .before .found .given .1))
+    (s .pre .0 .tree)
+    (few-rows (a .a .now) (s .pre .0)) (s .pre .1) (in-loop t .loop-test .taken) _ _
+    (came t _ (c .before .found .given .1))
 
 -- src/scan.rt:69:25
 enum-known-found-2 : tie.Need-enum-known-found-2 Inv-loop μ-loop
@@ -141,9 +141,9 @@ loop-again c =
     let s = l .before in
     let a = s .args in
     rw (c .to-at .ensures .is)
-      (scan-on (a .mode) (rows-in (a .a .now)) (a .b .now) (l .loop .map) (l .loop .i) (l .loop .inv) (s .pre .0 .tree)
-        (few-rows (a .a .now) (s .pre .0)) (s .pre .1) (in-loop t .loop-test .taken) _
-            (came t _ (c .before .before .found2 .given .1)))
+    (scan-on (a .mode) (rows-in (a .a .now)) (a .b .now) (l .loop .map) (l .loop .i) (l .loop .inv) (s .pre .0 .tree)
+    (few-rows (a .a .now) (s .pre .0)) (s .pre .1) (in-loop t .loop-test .taken) _
+    (came t _ (c .before .before .found2 .given .1)))
 
 -- src/scan.rt:58:1
 returns-2 : tie.Need-returns-2 Inv-loop μ-loop
@@ -151,7 +151,7 @@ returns-2 c =
     let l = c .before in
     let a = l .before .args in
     scan-ends (a .mode) (rows-in (a .a .now)) (a .b .now) (l .loop .map) (l .loop .i) (l .loop .inv)
-        (c .loop-test .left)
+    (c .loop-test .left)
 
 pub clash-spec : {M : Type 1} → statement M
 clash-spec =

@@ -49,8 +49,8 @@ returns c =
     let s = d .before .before in
     let r = row-at (s .args .a .now) (s .args .i) in
     hit-clash (s .args .mode) (uncoded (s .args .code)) r (d .code-at .result)
-      (ap uncoded (d .code-at .ensures .is) ∙ uncoded-code (r .production)) _
-      (rw (m .met .given .1) at (m .before .before .taken .ensures))
+    (ap uncoded (d .code-at .ensures .is) ∙ uncoded-code (r .production)) _
+    (rw (m .met .given .1) at (m .before .before .taken .ensures))
 
 -- src/scan.rt:30:1
 returns-2 : tie.Need-returns-2
@@ -60,7 +60,7 @@ returns-2 c =
     let r = row-at (s .args .a .now) (s .args .i) in
     let h = rw (c .enum-told .given .1) at (c .before .before .taken .ensures) in
     hit-match (s .args .mode) (uncoded (s .args .code)) r (d .code-at .result)
-      (ap uncoded (d .code-at .ensures .is) ∙ uncoded-code (r .production)) _ (h .1) _ (d .before .to-at .ensures .is)
+    (ap uncoded (d .code-at .ensures .is) ∙ uncoded-code (r .production)) _ (h .1) _ (d .before .to-at .ensures .is)
 
 pub hit-spec : {M : Type 1} → statement M
 hit-spec =

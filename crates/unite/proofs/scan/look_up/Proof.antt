@@ -54,9 +54,9 @@ returns-2 c =
     let e = k .before .before .before .before .before in
     let a = e .before .args in
     subst (λ (o : Option Row). Looks (looked (a .mode) (uncoded (a .code)) o) (c .hit .result))
-      (seek-is (a .mode) (uncoded (a .code)) (rows-in (a .a .now)) (a .from) (a .token .0) (e .if1 .left) _
-          (there k .1))
-      (c .hit .ensures)
+    (seek-is (a .mode) (uncoded (a .code)) (rows-in (a .a .now)) (a .from) (a .token .0) (e .if1 .left) _
+    (there k .1))
+    (c .hit .ensures)
 
 -- src/scan.rt:43:1
 returns-3 : tie.Need-returns-3

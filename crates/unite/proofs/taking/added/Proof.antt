@@ -12,7 +12,7 @@ returns : tie.Need-returns
 returns c mode =
     let s = c .before in
     adds-over (s .args .buf .now) (s .args .n) (s .args .i) (s .args .from .0) (s .args .token .0) (s .args .code)
-      (s .pre) mode (c .if1 .taken)
+    (s .pre) mode (c .if1 .taken)
 
 -- src/taking.rt:37:5
 add-requires : tie.Need-add-requires
@@ -39,7 +39,7 @@ returns-2 : tie.Need-returns-2
 returns-2 c mode =
     let s = c .before .before .before .before in
     adds-row (s .args .buf .now) (s .args .n) (s .args .i) (s .args .from .0) (s .args .token .0) (s .args .code)
-      (s .pre) mode (omega arith) _ (c .before .add .ensures)
+    (s .pre) mode (omega arith) _ (c .before .add .ensures)
 
 pub added-spec : {M : Type 1} → statement M
 added-spec =

@@ -22,7 +22,7 @@ cast-to : tie.Need-cast-to
 cast-to c =
     let s = c .before .before in
     let h = to-read (s .args .buf .now) (s .args .n) (s .args .i) (s .pre .laid) (s .pre .there) _
-        (c .to-at .ensures .is) in
+    (c .to-at .ensures .is) in
     omega (arith, h .1)
 
 -- src/taking.rt:51:33
@@ -34,7 +34,7 @@ taken-requires : tie.Need-taken-requires
 taken-requires c κs =
     let s = c .before .before .before .before in
     let h = code-read (s .args .buf .now) (s .args .n) (s .args .i) (s .pre .laid) (s .pre .there) _
-        (c .code-at .ensures .is) in
+    (c .code-at .ensures .is) in
     (h .1, s .pre .production)
 
 -- src/taking.rt:53:21
@@ -64,11 +64,11 @@ returns c u v =
     let d = m .before .before .before in
     let s = d .before .before .before .before in
     let h = code-read (s .args .buf .now) (s .args .n) (s .args .i) (s .pre .laid) (s .pre .there) _
-        (d .code-at .ensures .is) in
+    (d .code-at .ensures .is) in
     matches-clash (s .args .mode) (held (s .args .buf .now) (s .args .n))
-        (row-held (s .args .buf .now) (s .args .n) (s .args .i))
-      (d .code-at .result) (uncoded (s .args .code)) (h .0) u v _
-          (rw (m .met .given .1) at (m .before .before .taken .ensures))
+    (row-held (s .args .buf .now) (s .args .n) (s .args .i))
+    (d .code-at .result) (uncoded (s .args .code)) (h .0) u v _
+    (rw (m .met .given .1) at (m .before .before .taken .ensures))
 
 -- src/taking.rt:45:1
 same-length-2 : tie.Need-same-length-2
@@ -83,10 +83,10 @@ returns-2 c u v =
     let a = s .args in
     let h = code-read (a .buf .now) (a .n) (a .i) (s .pre .laid) (s .pre .there) _ (d .code-at .ensures .is) in
     let k = to-read (a .buf .now) (a .n) (a .i) (s .pre .laid) (s .pre .there) _
-        (d .before .before .to-at .ensures .is) in
+    (d .before .before .to-at .ensures .is) in
     let g = rw (m .met2 .given .1) at (m .before .before .taken .ensures) in
     gives (a .mode) (a .buf .now) _ (a .n) (a .i) (d .code-at .result) (a .code) (m .met2 .given .0 .0) _ (h .0) k
-        (g .1) (c .before .give .ensures) u v
+    (g .1) (c .before .give .ensures) u v
 
 pub matched-spec : {M : Type 1} → statement M
 matched-spec =

@@ -54,12 +54,12 @@ enum-known-found c = search needs
 -- the row that the search found, or its place
 there : (c : tie.After-known-told) → let s = c .before .before .before .before .before .before .before in
     Finds (take (s .args .n * 4) (s .args .buf .now)) (s .args .from .0) (s .args .token .0)
-      (At (c .before .found .given .0 .0))
+    (At (c .before .found .given .0 .0))
 there c = rw (c .before .found .given .1) at (c .before .before .before .find .ensures)
 
 missed : (c : tie.After-known-told2) → let s = c .before .before .before .before .before .before .before in
     Finds (take (s .args .n * 4) (s .args .buf .now)) (s .args .from .0) (s .args .token .0)
-      (Missing (c .before .found2 .given .0 .0))
+    (Missing (c .before .found2 .given .0 .0))
 missed c = rw (c .before .found2 .given .1) at (c .before .before .before .find .ensures)
 
 -- src/taking.rt:79:25
@@ -95,9 +95,9 @@ returns c =
     let s = k .before .before .before .before .before .before .before in
     let a = s .args in
     subst (λ (o : Option Row). Takes (c .before .matched .last .1 .0)
-        (taking (a .mode) (held (a .buf .now) (a .n)) (a .from .0) (a .token .0) (uncoded (a .code)) o)
-            (c .before .matched .result))
-      (sym (there k .1)) (c .before .matched .ensures (a .from .0) (a .token .0))
+    (taking (a .mode) (held (a .buf .now) (a .n)) (a .from .0) (a .token .0) (uncoded (a .code)) o)
+    (c .before .matched .result))
+    (sym (there k .1)) (c .before .matched .ensures (a .from .0) (a .token .0))
 
 -- src/taking.rt:65:1
 same-length-2 : tie.Need-same-length-2
@@ -110,9 +110,9 @@ returns-2 c =
     let s = k .before .before .before .before .before .before .before in
     let a = s .args in
     subst (λ (o : Option Row). Takes (c .before .added .last .0)
-        (taking (a .mode) (held (a .buf .now) (a .n)) (a .from .0) (a .token .0) (uncoded (a .code)) o)
-            (c .before .added .result))
-      (sym (missed k .0)) (c .before .added .ensures (a .mode))
+    (taking (a .mode) (held (a .buf .now) (a .n)) (a .from .0) (a .token .0) (uncoded (a .code)) o)
+    (c .before .added .result))
+    (sym (missed k .0)) (c .before .added .ensures (a .mode))
 
 pub take-row-spec : {M : Type 1} → statement M
 take-row-spec =

@@ -35,9 +35,11 @@ abbrev μ-loop : tie.MeasureT-loop
 -- src/taking.rt:97:5
 loop-holds : tie.Need-loop-holds Inv-loop μ-loop
 loop-holds c =
-    let a = c .args in
-    (refl, begins (a .mode) (a .b .now) (a .buf .now) (a .map .now) (a .count) (c .pre .0) (c .pre .1) (c .pre .2)
-        (c .pre .3))
+    let a = c .args in (
+      refl,
+      begins (a .mode) (a .b .now) (a .buf .now) (a .map .now) (a .count) (c .pre .0) (c .pre .1) (c .pre .2)
+          (c .pre .3),
+    )
 
 -- the row that is taken, and what comes of it
 fitting : (c : tie.In-loop Inv-loop μ-loop) → let l = c .before in Fit (row-at (l .before .args .b .now) (l .loop .i))
@@ -45,8 +47,8 @@ fitting c =
     let l = c .before in
     let a = l .before .args in
     row-fit (a .mode) (held (a .buf .now) (a .count)) (a .b .now) (l .loop .buf) (l .loop .map) (l .loop .n)
-        (l .loop .i)
-      (l .loop .inv .1) (l .before .pre .2) (omega arith)
+    (l .loop .i)
+    (l .loop .inv .1) (l .before .pre .2) (omega arith)
 
 abbrev from-of : tie.After-from-at Inv-loop μ-loop → ℕ
 from-of c = let l = c .before .before in row-at (l .before .args .b .now) (l .loop .i) .from
@@ -58,8 +60,8 @@ from-row c =
     let a = l .before .args in
     ap (λ (z : ℕ). getD (l .loop .map) z 0) (c .from-at .ensures .is)
     ∙ from-is (a .mode) (held (a .buf .now) (a .count)) (a .b .now) (l .loop .buf) (l .loop .map) (l .loop .n)
-        (l .loop .i)
-      (l .loop .inv .1) (l .before .pre .2) (omega arith)
+    (l .loop .i)
+    (l .loop .inv .1) (l .before .pre .2) (omega arith)
 
 abbrev in-loop : tie.After-take-row Inv-loop μ-loop → tie.In-loop Inv-loop μ-loop
 in-loop c = c .before .before .before .before .before .before
@@ -69,9 +71,9 @@ loop-of c = in-loop c .before
 
 came : (c : tie.After-take-row Inv-loop μ-loop) (x : Took) → c .take-row .result ≡ x → let l = loop-of c in
     Takes (c .take-row .last .1 .0)
-      (one-row (l .before .args .mode) (held (l .loop .buf) (l .loop .n)) (l .loop .inv .1 .matches)
-        (row-at (l .before .args .b .now) (l .loop .i)))
-      x
+    (one-row (l .before .args .mode) (held (l .loop .buf) (l .loop .n)) (l .loop .inv .1 .matches)
+    (row-at (l .before .args .b .now) (l .loop .i)))
+    x
 came c x e =
     let d = c .before in
     let t = d .before .before in
@@ -80,9 +82,9 @@ came c x e =
     let a = l .before .args in
     let r = row-at (a .b .now) (l .loop .i) in
     took-as (c .take-row .last .1 .0)
-      (as-one-row (a .mode) (held (l .loop .buf) (l .loop .n)) (l .loop .inv .1 .matches) r _ _ _ (from-row f)
-        (t .terminal-at .ensures .is) (ap uncoded (d .code-at .ensures .is) ∙ uncoded-code (r .production)))
-      e (c .take-row .ensures)
+    (as-one-row (a .mode) (held (l .loop .buf) (l .loop .n)) (l .loop .inv .1 .matches) r _ _ _ (from-row f)
+    (t .terminal-at .ensures .is) (ap uncoded (d .code-at .ensures .is) ∙ uncoded-code (r .production)))
+    e (c .take-row .ensures)
 
 -- src/taking.rt:98:30
 from-at-requires : tie.Need-from-at-requires Inv-loop μ-loop
@@ -112,9 +114,12 @@ code-at-requires c κs = omega arith
 take-row-requires : tie.Need-take-row-requires Inv-loop μ-loop
 take-row-requires c κs =
     let f = c .before .before .before .before in
-    let o = f .before .before .loop .inv .1 in
-    (o .laid, o .matching .tree, omega (arith, from-row f, o .small (from-of f)),
-     omega (arith, c .code-at .ensures .is, fitting (f .before) .production))
+    let o = f .before .before .loop .inv .1 in (
+      o .laid,
+      o .matching .tree,
+      omega (arith, from-row f, o .small (from-of f)),
+      omega (arith, c .code-at .ensures .is, fitting (f .before) .production),
+    )
 
 -- src/taking.rt:102:25
 enum-known-took : tie.Need-enum-known-took Inv-loop μ-loop
@@ -133,8 +138,8 @@ returns c =
     let l = loop-of t in
     let a = l .before .args in
     clashes (a .mode) (held (a .buf .now) (a .count)) (a .b .now) (l .loop .buf) (l .loop .map) (l .loop .n)
-        (l .loop .i)
-      (l .loop .inv .1) (l .before .pre .2) (omega arith) _ _ (came t _ (c .before .took .given .1))
+    (l .loop .i)
+    (l .loop .inv .1) (l .before .pre .2) (omega arith) _ _ (came t _ (c .before .took .given .1))
 
 -- src/taking.rt:103:27
 enum-told : tie.Need-enum-told Inv-loop μ-loop
@@ -153,8 +158,8 @@ returns-2 c =
     let l = loop-of t in
     let a = l .before .args in
     overflows (a .mode) (held (a .buf .now) (a .count)) (a .b .now) (l .loop .buf) (l .loop .map) (l .loop .n)
-        (l .loop .i)
-      (l .loop .inv .1) (l .before .pre .2) (omega arith) (came t _ (c .enum-told .given .1))
+    (l .loop .i)
+    (l .loop .inv .1) (l .before .pre .2) (omega arith) (came t _ (c .enum-told .given .1))
 
 -- src/taking.rt:104:25
 enum-known-took-2 : tie.Need-enum-known-took-2 Inv-loop μ-loop
@@ -189,12 +194,13 @@ loop-again : tie.Need-loop-again Inv-loop μ-loop
 loop-again c =
     let t = c .before .before .before .before .before in
     let l = loop-of t in
-    let a = l .before .args in
-    (t .take-row .kept .1 .0 ∙ l .loop .inv .0,
-     rw (c .to-at .ensures .is)
-       (goes-on (a .mode) (held (a .buf .now) (a .count)) (a .b .now) (l .loop .buf) (l .loop .map) (l .loop .n)
-           (l .loop .i)
-         (l .loop .inv .1) (l .before .pre .2) (omega arith) _ _ _ (came t _ (c .before .before .took2 .given .1))))
+    let a = l .before .args in (
+      t .take-row .kept .1 .0 ∙ l .loop .inv .0,
+      rw (c .to-at .ensures .is)
+          (goes-on (a .mode) (held (a .buf .now) (a .count)) (a .b .now) (l .loop .buf) (l .loop .map) (l .loop .n)
+          (l .loop .i)
+          (l .loop .inv .1) (l .before .pre .2) (omega arith) _ _ _ (came t _ (c .before .before .took2 .given .1))),
+    )
 
 -- src/taking.rt:85:1
 same-length-3 : tie.Need-same-length-3 Inv-loop μ-loop
@@ -206,7 +212,7 @@ returns-3 c =
     let l = c .before in
     let a = l .before .args in
     ends (a .mode) (held (a .buf .now) (a .count)) (a .b .now) (l .loop .buf) (l .loop .map) (l .loop .n) (l .loop .i)
-      (l .loop .inv .1) (c .loop-test .left)
+    (l .loop .inv .1) (c .loop-test .left)
 
 pub take-rows-spec : {M : Type 1} → statement M
 take-rows-spec =
