@@ -2,6 +2,7 @@
 use Prim.Native.Nat.{ℕ, _*_, _≤_}
 use mathlib.Core.Path.{_≡_, refl, ap, sym, _∙_}
 use mathlib.Core.Bool.{false}
+use mathlib.Core.Option.{Option, none, some}
 use mathlib.Core.List.{List, [], _∷_}
 use native.Mathlib.Omega.{arith}
 use borrow.Author.Tests.{ltb-false}
@@ -9,6 +10,8 @@ use lib.Dec.{ltb}
 use lib.ListN.{length, take, drop, length-append}
 use lib.Seq.{take-at}
 use lib.IntN.{ℤ}
+use mir.Syntax.{w32}
+use mir.Val.{toZ, ofZ}
 use Rattle.paper.specs.declared.Refusal.{Refusal}
 use Rattle.paper.specs.declared.Reading.the-variants.{Read, Refused}
 use Rattle.paper.specs.Rows.{Row, Table, table, numbers, signed}
@@ -16,6 +19,9 @@ use Rattle.paper.specs.Answers.{Ruling, accept, refuse, then, Title, Reads, num
 use Rattle.paper.specs.Checks.{first, plain, range, order, little-room}
 use Rattle.paper.specs.Text.{lines, read-lines, text-in}
 use Rattle.laws.proofs.RowNumbers.{table-numbers, length-numbers, slice-numbers}
+use Rattle.rows.specs.Places.{code}
+use Rattle.rows.proofs.Judged.{bounded}
+use Rattle.text.proofs.Filled.{stored}
 use Rattle.text.proofs.Never.{refuse-accept}
 use Rattle.text.proofs.Back.{passes}
 use Rattle.report.specs.Rulings.{Taken, of-table, of-text}
@@ -44,9 +50,16 @@ passed input room t e = go (read-lines (lines input)) (passes (little-room room)
 abbrev title : Table → Title
 title t = record { prod0 = signed (t .prod0); k = t .k; rows = length (t .rows) }
 
+-- a production that was read, as a callee is passed it
+sign-kept : (o : Option ℕ) (p : ℤ) → code o ≤ 65536 → p ≡ signed o → toZ w32 (ofZ w32 p) ≡ p
+sign-kept none p h e = rw e
+sign-kept (some q) p h e = stored q p (omega arith) e ∙ sym e
+
 -- the front of what text in wrote, and the ruling on its table
 pub record Front (input : List ℕ) (p : ℤ) (k n : ℕ) (new : List ℤ) : Type 0 where
+  pub few : n ≤ 4096
   pub room : n * 4 ≤ length new
+  pub kept : toZ w32 (ofZ w32 p) ≡ p
   pub taken : Taken p k (take (n * 4) new)
   pub ruled : of-text input ≡ of-table (table p k (take (n * 4) new))
 
@@ -78,6 +91,8 @@ module _ (input : List ℕ) {old new : List ℤ} where
         rw (at, ap (λ (x : Title). x .prod0) same, ap (λ (x : Title). x .k) same) (table-numbers t) in
         let ok = passed input 16384 t is in
         record {
+          few = omega (arith, ok .few);
+          kept = sign-kept (t .prod0) p (bounded t (ok .ranged) .prod0) (ap (λ (x : Title). x .prod0) same);
           room = omega (arith, ap length (m .holds), length-append ns (drop (length ns) old));
           taken = record {
             whole = rw at (slice-numbers (t .rows) (ok .few));

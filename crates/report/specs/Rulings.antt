@@ -1,9 +1,9 @@
 -- What the parts of the report are passed, and what they print.
-use Prim.Native.Nat.{ℕ}
+use Prim.Native.Nat.{ℕ, _≤_}
 use mathlib.Core.Path.{_≡_}
 use mathlib.Core.Bool.{false}
 use mathlib.Core.List.{List, _++_}
-use lib.ListN.{length, drop}
+use lib.ListN.{length, take, drop}
 use lib.IntN.{ℤ}
 use Rattle.paper.specs.declared.Mode.{Mode}
 use Rattle.paper.specs.declared.Mode.the-variants.{Archive, Intake}
@@ -39,6 +39,9 @@ unfoldable pub of-text : List ℕ → Ruling (List ℕ)
 of-text input = then (text-in input 16384) of-table
 
 -- What is printed stands at the front of the output, and what follows it is as before.
+-- The last two follow from these; they are what a caller's `&out[..r]` asks.
 pub record Prints (bytes old new : List ℕ) (r : ℕ) : Type 0 where
   pub count : r ≡ length bytes
   pub holds : new ≡ bytes ++ drop r old
+  pub within : r ≤ length new
+  pub part : r ≡ length (take r new)

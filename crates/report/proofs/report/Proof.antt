@@ -1,42 +1,33 @@
+-- `report::report` meets its contract: a text that is too long, or the report on its table. Assumes nothing.
+use native.Mathlib.Omega.{arith}
+use Rattle.report.proofs.Reported.{prints, prints-as, too-long, by-text}
 use borrow.Author.Needs.{needs}
 use Rattle.report.proofs.report.Statement.{statement}
 use Rattle.report.proofs.report.Tie as tie
-use Rattle.report.proofs.report.Reads as reads
-use Rattle.report.proofs.report.Lts as lts
-use Rattle.report.proofs.lines.put_refused.Reads as put-refused-reads
-use Rattle.report.proofs.with_table.Reads as with-table-reads
 
--- src/lib.rt:101:9
 put-refused-requires : tie.Need-put-refused-requires
 put-refused-requires c κs = search needs
 
--- src/lib.rt:101:9
 same-length : tie.Need-same-length
 same-length c = search needs
 
--- src/lib.rt:101:9
 returns : tie.Need-returns
-returns c = ?
+returns c = prints (c .before .before .put-refused .ensures) (too-long (c .before .before .before .before .before .before .before .args .input .now) (omega arith))
 
--- src/lib.rt:105:23
 slice-aggregate-with-table : tie.Need-slice-aggregate-with-table
 slice-aggregate-with-table c = search needs
 
--- src/lib.rt:105:33
 slice-aggregate-with-table-2 : tie.Need-slice-aggregate-with-table-2
 slice-aggregate-with-table-2 c = search needs
 
--- src/lib.rt:105:5
 with-table-requires : tie.Need-with-table-requires
 with-table-requires c κs = search needs
 
--- src/lib.rt:96:1
 same-length-2 : tie.Need-same-length-2
 same-length-2 c = search needs
 
--- src/lib.rt:96:1
 returns-2 : tie.Need-returns-2
-returns-2 c = ?
+returns-2 c = prints-as (c .before .before .before .before .with-table .ensures) (by-text (c .before .before .before .before .before .before .before .before .before .before .before .args .input .now) (omega arith))
 
 pub report-spec : {M : Type 1} → statement M
 report-spec =

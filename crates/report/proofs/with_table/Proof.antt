@@ -1,71 +1,76 @@
+-- `report::with_table` meets its contract: text in's answer, then shrink's on the rows that it wrote. Assumes nothing.
+use mathlib.Core.Path.{sym}
+use native.Mathlib.Omega.{arith}
+use lib.Seq.{length-take-le}
+use Rattle.report.proofs.Reading.{Front, text-taken, text-refused}
+use Rattle.report.proofs.Reported.{prints, prints-as, printed-refusal, printed-same}
 use borrow.Author.Needs.{needs}
 use Rattle.report.proofs.with_table.Statement.{statement}
 use Rattle.report.proofs.with_table.Tie as tie
-use Rattle.report.proofs.with_table.Reads as reads
-use Rattle.report.proofs.with_table.Lts as lts
-use Rattle.report.proofs.lines.put_refused.Reads as put-refused-reads
-use Rattle.report.proofs.with_archive.Reads as with-archive-reads
-use Rattle.text.proofs.text_in.Reads as text-in-reads
 
--- src/lib.rt:88:9
 text-in-requires : tie.Need-text-in-requires
 text-in-requires c κs = search needs
 
--- src/lib.rt:90:25
 enum-known-reading : tie.Need-enum-known-reading
 enum-known-reading c = search needs
 
--- src/lib.rt:90:75
+-- the rows that text in wrote
+front : (c : tie.After-known-told) →
+    let g = c .before .reading .given .0 in
+    Front (c .before .before .before .before .before .before .before .before .args .input .now) (g .0) (g .1 .0) (g .1 .1 .0) (c .before .before .before .before .text-in .last .1 .0)
+front c =
+    let k = c .before .before .before .before in
+    let s = k .before .before .before .before in
+    let m = rw (c .before .reading .given .1) at (rw (s .pre .0) at (k .text-in .ensures)) in
+    text-taken (s .args .input .now) _ _ _ m
+
 mul-with-archive : tie.Need-mul-with-archive
-mul-with-archive c = ?
+mul-with-archive c = let few = front c .few in omega arith
 
--- src/lib.rt:90:68
 slice-reshare-prefix-with-archive : tie.Need-slice-reshare-prefix-with-archive
-slice-reshare-prefix-with-archive c = ?
+slice-reshare-prefix-with-archive c = front c .room
 
--- src/lib.rt:90:68
 slice-aggregate-with-archive : tie.Need-slice-aggregate-with-archive
-slice-aggregate-with-archive c = ?
+slice-aggregate-with-archive c = sym (length-take-le _ _ (front (c .before) .room))
 
--- src/lib.rt:90:45
 with-archive-requires : tie.Need-with-archive-requires
-with-archive-requires c κs = ?
+with-archive-requires c κs =
+    let f = front (c .before .before .before) in
+    (rw (f .kept) (f .taken), omega arith, omega arith)
 
--- src/lib.rt:91:26
 enum-known-reading-2 : tie.Need-enum-known-reading-2
 enum-known-reading-2 c = search needs
 
--- src/lib.rt:91:32
 put-refused-requires : tie.Need-put-refused-requires
 put-refused-requires c κs = search needs
 
--- src/lib.rt:84:1
 same-length : tie.Need-same-length
 same-length c = search needs
 
--- src/lib.rt:84:1
 same-length-2 : tie.Need-same-length-2
 same-length-2 c = search needs
 
--- src/lib.rt:84:1
 same-length-3 : tie.Need-same-length-3
 same-length-3 c = search needs
 
--- src/lib.rt:84:1
 returns : tie.Need-returns
-returns c = ?
+returns c =
+    let f = front (c .before .before .before .before .before .before .before) in
+    prints-as (rw (f .kept) at (c .before .before .before .with-archive .ensures)) (printed-same (sym (f .ruled)))
 
--- src/lib.rt:84:1
 same-length-4 : tie.Need-same-length-4
 same-length-4 c = search needs
 
--- src/lib.rt:84:1
 same-length-5 : tie.Need-same-length-5
 same-length-5 c = search needs
 
--- src/lib.rt:84:1
 returns-2 : tie.Need-returns-2
-returns-2 c = ?
+returns-2 c =
+    let v = c .before .before .before .before .before in
+    let k = v .before .before .before in
+    let s = k .before .before .before .before in
+    let m = rw (v .reading2 .given .1) at (rw (s .pre .0) at (k .text-in .ensures)) in
+    prints (c .before .before .put-refused .ensures) (printed-refusal (text-refused (s .args .input .now) _ m))
 
 pub with-table-spec : {M : Type 1} → statement M
 with-table-spec =
