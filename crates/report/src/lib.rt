@@ -67,12 +67,12 @@ fn with_archive(prod0: i32, k: usize, rows: &[i32], spare: &mut [i32], out: &mut
         Making::Made {
             prod0: _,
             k: _,
-            rows: count,
+            rows: kept,
             states,
         } => {
             let sizes = Sizes {
                 states,
-                rows: count,
+                rows: kept,
             };
             with_intake(prod0, k, rows, sizes, spare, out)
         }
