@@ -12,7 +12,16 @@ use Rattle.paper.specs.Rows.{Row, rows-in, table, leaving, begin}
 use Rattle.paper.specs.Answers.{Ruling, accept, refuse, number, detail}
 use Rattle.paper.specs.Checks.{row-slice, plain}
 use Rattle.paper.specs.Explain.{
-    Stop, Stretch, stop, at-end, left-rows, explain, matched-count, stretch-of, stretch, PartOf
+  Stop,
+  Stretch,
+  stop,
+  at-end,
+  left-rows,
+  explain,
+  matched-count,
+  stretch-of,
+  stretch,
+  PartOf,
 }
 use denote.Ref.{RefT}
 use Rattle.explain.specs.declared.Part.{Part}

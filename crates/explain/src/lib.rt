@@ -1,9 +1,10 @@
 // Document 01, module 6: explain.
-use paper::{Explanation, Refusal, State};
+use paper::Explanation;
+use paper::Refusal;
+use paper::State;
 use rows::numbers;
 use rows::search::Found;
 use rows::verdict::Verdict;
-
 ghost use mathlib.Core.Path.{_≡_};
 ghost use mathlib.Core.Bool.{false};
 ghost use Prim.Native.Nat.{_+_, _-_, _*_, _/_, _<_, _≤_};

@@ -1,10 +1,21 @@
 // The calls for Rust and C: numbers and slices in, the refusal's number out (0: accepted), values in `answer`.
 ghost use Rattle.predict.specs.Seen.{Sound};
-use paper::{Explanation, Making, Mode, Prediction, Production, Reading, Refusal, Writing};
+use paper::Explanation;
+use paper::Making;
+use paper::Mode;
+use paper::Prediction;
+use paper::Production;
+use paper::Reading;
+use paper::Refusal;
+use paper::Writing;
 
 // Mode 0 is archive; any other number is intake.
 fn mode_of(mode: u32) -> Mode {
-    if mode == 0 { Mode::Archive } else { Mode::Intake }
+    if mode == 0 {
+        Mode::Archive
+    } else {
+        Mode::Intake
+    }
 }
 
 fn wide(q: Production) -> u64 {
@@ -43,7 +54,10 @@ pub extern "C" fn lookahead_predict(
 
 fn predicted(said: Prediction, answer: &mut [u64; 4]) -> usize {
     match said {
-        Prediction::Predicted { production, entered } => {
+        Prediction::Predicted {
+            production,
+            entered,
+        } => {
             answer[0] = wide(production);
             answer[1] = entered as u64;
             0
@@ -195,11 +209,7 @@ pub extern "C" fn lookahead_shrink(
 
 // Text in: rows at the front of `out`; prod0 plus one, k, the row count.
 #[no_mangle]
-pub extern "C" fn lookahead_text_in(
-    text: &[u8],
-    out: &mut [i32],
-    answer: &mut [u64; 4],
-) -> usize {
+pub extern "C" fn lookahead_text_in(text: &[u8], out: &mut [i32], answer: &mut [u64; 4]) -> usize {
     let said = text::text_in(text, out);
     match said {
         Reading::Read { prod0, k, rows } => {

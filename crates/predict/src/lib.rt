@@ -1,9 +1,13 @@
 // Document 01, module 5: predict.
-use paper::{Mode, Prediction, Production, Refusal, State, Terminal};
+use paper::Mode;
+use paper::Prediction;
+use paper::Production;
+use paper::Refusal;
+use paper::State;
+use paper::Terminal;
 use rows::numbers;
 use rows::search::Found;
 use rows::verdict::Verdict;
-
 ghost use mathlib.Core.Path.{_≡_};
 ghost use Prim.Native.Nat.{_+_, _*_, _/_, _<_, _≤_};
 ghost use lib.ListN.{length};

@@ -21,8 +21,23 @@ use Rattle.paper.specs.declared.Writing.{Writing}
 use Rattle.paper.specs.declared.Writing.the-variants as writing
 use Rattle.paper.specs.Rows.{Table}
 use Rattle.paper.specs.Answers.{
-    Ruling, accept, refuse, number, detail, Made, Heading, Title, Chosen, made, predicted, explained, heard, wrote,
-    Makes, Reads, Writes
+  Ruling,
+  accept,
+  refuse,
+  number,
+  detail,
+  Made,
+  Heading,
+  Title,
+  Chosen,
+  made,
+  predicted,
+  explained,
+  heard,
+  wrote,
+  Makes,
+  Reads,
+  Writes,
 }
 
 -- The refusal of a number and a detail.

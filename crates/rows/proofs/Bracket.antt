@@ -114,7 +114,7 @@ scanned {ns} p end x i s w f = record {
   above = λ j l n. by-test (ltb i end)
       (λ e. up j l n (s .here (ltb-true i end e)))
       (λ e. let k : end ≤ i = ltb-false i end e in
-        let q : i ≡ end = omega (arith, s .within) in absurd (omega (arith, f q)));
+      let q : i ≡ end = omega (arith, s .within) in absurd (omega (arith, f q)));
 }
   where
     up : (j : ℕ) → i ≤ j → j < length ns / 4 → x ≤ key (row-at ns i) → x ≤ key (row-at ns j)

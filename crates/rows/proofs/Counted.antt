@@ -65,10 +65,10 @@ module _ {f : Row → Bool} {g : List Row → ℕ} (c : Counts f g) (ns : List �
       let e : a + (b - a) ≡ b = omega arith in
       let d : b + (n - b) ≡ n = omega arith in
       let p : g (rest ns b) ≡ 0 =
-          none-count (n - b) b (omega arith) (λ j q w. z j q (omega arith))
-          ∙ ap (λ (m : ℕ). g (rest ns m)) d ∙ count-end n (omega arith) in
+      none-count (n - b) b (omega arith) (λ j q w. z j q (omega arith))
+      ∙ ap (λ (m : ℕ). g (rest ns m)) d ∙ count-end n (omega arith) in
       let q : g (rest ns a) ≡ (b - a) + g (rest ns (a + (b - a))) =
-          all-count (b - a) a (omega arith) (λ j w v. y j w (omega arith)) in
+      all-count (b - a) a (omega arith) (λ j w v. y j w (omega arith)) in
       let r : g (rest ns (a + (b - a))) ≡ 0 = ap (λ (m : ℕ). g (rest ns m)) e ∙ p in
       let u : 0 + a ≡ a = omega arith in
       let m : g (rest ns 0) ≡ g (rest ns (0 + a)) = none-count a 0 (omega arith) (λ j w v. x j (omega arith)) in
@@ -108,7 +108,7 @@ module _ (ns : List ℤ) (s a b : ℕ) (p : Passed ns) (l : Lower ns (s * 65536)
     counts = sym (count-between (leaving-counts s) ns a b in-order (h .within)
         (λ j w. ne-eqb _ _ (λ (e : row-at ns j .from ≡ s). omega (arith, l .below j w)))
         (λ j w v. let m : j < length ns / 4 = omega (arith, h .within) in
-          eq-eqb (row-at ns j .from) s (omega (arith, l .above j w m, h .below j v, terminal-at j m)))
+        eq-eqb (row-at ns j .from) s (omega (arith, l .above j w m, h .below j v, terminal-at j m)))
         (λ j w v. ne-eqb _ _ (λ (e : row-at ns j .from ≡ s). omega (arith, h .above j w v, terminal-at j v))));
     within = omega (arith, in-order, h .within);
   }

@@ -34,22 +34,22 @@ pub before-key : (a b : Row) → a .terminal ≤ 65535 → b .terminal ≤ 65535
 unfolding before
 before-key a b h k = compared (a .from) (b .from)
     (λ (l : a .from < b .from).
-      let m : key a < key b = omega arith in simp (lt-ltb _ _ l, lt-ltb _ _ m))
+    let m : key a < key b = omega arith in simp (lt-ltb _ _ l, lt-ltb _ _ m))
     (λ (e : a .from ≡ b .from).
-      let n : b .from ≤ a .from = omega arith in
-      compared (a .terminal) (b .terminal)
-      (λ (l : a .terminal < b .terminal).
-        let m : key a < key b = omega arith in simp (le-ltb _ _ n, eq-eqb _ _ e, lt-ltb _ _ l, lt-ltb _ _ m))
-      (λ (d : a .terminal ≡ b .terminal).
-        let l : b .terminal ≤ a .terminal = omega arith in
-        let m : key b ≤ key a = omega arith in simp (le-ltb _ _ n, eq-eqb _ _ e, le-ltb _ _ l, le-ltb _ _ m))
-      (λ (g : b .terminal < a .terminal).
-        let l : b .terminal ≤ a .terminal = omega arith in
-        let m : key b ≤ key a = omega arith in simp (le-ltb _ _ n, eq-eqb _ _ e, le-ltb _ _ l, le-ltb _ _ m)))
+    let n : b .from ≤ a .from = omega arith in
+    compared (a .terminal) (b .terminal)
+    (λ (l : a .terminal < b .terminal).
+    let m : key a < key b = omega arith in simp (le-ltb _ _ n, eq-eqb _ _ e, lt-ltb _ _ l, lt-ltb _ _ m))
+    (λ (d : a .terminal ≡ b .terminal).
+    let l : b .terminal ≤ a .terminal = omega arith in
+    let m : key b ≤ key a = omega arith in simp (le-ltb _ _ n, eq-eqb _ _ e, le-ltb _ _ l, le-ltb _ _ m))
+    (λ (g : b .terminal < a .terminal).
+    let l : b .terminal ≤ a .terminal = omega arith in
+    let m : key b ≤ key a = omega arith in simp (le-ltb _ _ n, eq-eqb _ _ e, le-ltb _ _ l, le-ltb _ _ m)))
     (λ (g : b .from < a .from).
-      let n : b .from ≤ a .from = omega arith in
-      let d : a .from ≡ b .from → ⊥ = λ e. omega arith in
-      let m : key b ≤ key a = omega arith in simp (le-ltb _ _ n, ne-eqb _ _ d, le-ltb _ _ m))
+    let n : b .from ≤ a .from = omega arith in
+    let d : a .from ≡ b .from → ⊥ = λ e. omega arith in
+    let m : key b ≤ key a = omega arith in simp (le-ltb _ _ n, ne-eqb _ _ d, le-ltb _ _ m))
 
 module _ (ns : List ℤ) (i : ℕ) where
   pair : i * 4 + 7 < length ns → rest ns i ≡ row-at ns i ∷ row-at ns (i + 1) ∷ rest ns (i + 2)
@@ -74,7 +74,7 @@ module _ (ns : List ℤ) (i : ℕ) where
         let b = fit (row-at ns (i + 1)) (every-at row-fits ns (i + 1) fits (omega arith)) in
         rising-cons h
         ∙ ap (λ (t : Bool). t && rising (rest ns (i + 1))) (before-key (row-at ns i) (row-at ns (i + 1))
-            (a .terminal) (b .terminal))
+        (a .terminal) (b .terminal))
 
     -- a row below the next, and one that is not
     pub rising-next : key (row-at ns i) < key (row-at ns (i + 1)) → rising (rest ns i) ≡ rising (rest ns (i + 1))

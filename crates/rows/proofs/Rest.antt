@@ -41,11 +41,13 @@ next ns k m h e = drop-cons ns k (pos 0) h ∙ rw e
 pub rest-cons : (ns : List ℤ) (i : ℕ) → i * 4 + 3 < length ns → rest ns i ≡ row-at ns i ∷ rest ns (i + 1)
 rest-cons ns i h =
     let e : (i + 1) * 4 ≡ i * 4 + 4 = omega arith in
-    rw (e,
+    rw (
+      e,
       next ns (i * 4) (i * 4 + 1) (omega arith) (omega arith),
       next ns (i * 4 + 1) (i * 4 + 2) (omega arith) (omega arith),
       next ns (i * 4 + 2) (i * 4 + 3) (omega arith) (omega arith),
-      next ns (i * 4 + 3) (i * 4 + 4) (omega arith) (omega arith))
+      next ns (i * 4 + 3) (i * 4 + 4) (omega arith) (omega arith),
+    )
 
 few : (ns : List ℤ) → length ns < 4 → rows-in ns ≡ []
 few [] h = refl

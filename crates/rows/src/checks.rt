@@ -1,6 +1,5 @@
 // The checks 1 to 7: each true when it refuses.
 use crate::numbers;
-
 ghost use mathlib.Core.Path.{_≡_};
 ghost use mathlib.Core.Bool.{true};
 ghost use Prim.Native.Nat.{_+_, _*_, _<_, _≤_};

@@ -126,7 +126,7 @@ module _ (mode : Mode) (xs : List Row) (b buf : List ℤ) (map : List ℕ) (n i 
 
       here : (p : Option ℕ) (k : ℕ)
           → all-rows mode xs (rows-in b) p k
-            ≡ take-rows mode (so-far p k (held buf n) (o .matches)) (r ∷ rest b (i + 1))
+          ≡ take-rows mode (so-far p k (held buf n) (o .matches)) (r ∷ rest b (i + 1))
       here p k = o .left p k ∙ ap (take-rows mode (so-far p k (held buf n) (o .matches))) cut
 
       first : Next (o .done) r × Ordered (o .done ++ (r ∷ [])) (rest b (i + 1))

@@ -9,7 +9,7 @@ returns : tie.Need-returns
 returns c =
     let s = c .before .before in
     lies-at-end (s .args .rows .now) (all-matched (s .args .rows .now) (stopped (s .args .s)) (not-true _
-        (c .if1 .taken)))
+    (c .if1 .taken)))
 
 cast-leaving : tie.Need-cast-leaving
 cast-leaving c = search needs
@@ -24,7 +24,7 @@ returns-2 c =
     let s = i .before .before in
     let o = not-false _ (i .if1 .left) in
     lies-at-end (s .args .rows .now) (no-rows (s .args .rows .now) (stopped (s .args .s)) o _ _
-        (v .leaving .ensures) (c .if2 .taken))
+    (v .leaving .ensures) (c .if2 .taken))
 
 mul-t7 : tie.Need-mul-t7
 mul-t7 c = search needs

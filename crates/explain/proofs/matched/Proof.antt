@@ -14,7 +14,7 @@ returns : tie.Need-returns
 returns c =
     let s = c .before .before .before in
     matched-length (s .args .prod0) (s .args .k) (s .args .rows .now) (s .args .tokens .now) (sym
-        (c .before .row-slice .ensures) ∙ c .if1 .taken)
+    (c .before .row-slice .ensures) ∙ c .if1 .taken)
 
 plain-requires : tie.Need-plain-requires
 plain-requires c κs = search needs
@@ -30,7 +30,7 @@ walked-requires c κs =
     let v = c .before .before in
     let s = v .before .before .before .before in
     plain-passed (s .args .prod0) (s .args .k) (s .args .rows .now) (rw (c .enum-told .given .1) at (rw (same
-        (s .args .prod0) (s .fits .prod0)) at (v .plain .ensures)))
+    (s .args .prod0) (s .fits .prod0)) at (v .plain .ensures)))
 
 returns-2 : tie.Need-returns-2
 returns-2 c =
@@ -38,8 +38,8 @@ returns-2 c =
     let i = v .before in
     let s = i .before .before .before in
     matched-refused (s .args .prod0) (s .args .k) (s .args .rows .now) (s .args .tokens .now) (sym
-        (i .before .row-slice .ensures) ∙ i .if1 .left) _ (rw (c .before .verdict .given .1) at (rw (same
-        (s .args .prod0) (s .fits .prod0)) at (v .plain .ensures)))
+    (i .before .row-slice .ensures) ∙ i .if1 .left) _ (rw (c .before .verdict .given .1) at (rw (same
+    (s .args .prod0) (s .fits .prod0)) at (v .plain .ensures)))
 
 returns-3 : tie.Need-returns-3
 returns-3 c =
@@ -47,9 +47,9 @@ returns-3 c =
     let i = v .before in
     let s = i .before .before .before in
     let j = rw (c .before .enum-told .given .1) at (rw (same (s .args .prod0) (s .fits .prod0)) at
-        (v .plain .ensures)) in
+    (v .plain .ensures)) in
     matched-passed (s .args .prod0) (s .args .k) (s .args .rows .now) (s .args .tokens .now) (sym
-        (i .before .row-slice .ensures) ∙ i .if1 .left) (stopped (c .walked .result)) j (c .walked .ensures)
+    (i .before .row-slice .ensures) ∙ i .if1 .left) (stopped (c .walked .result)) j (c .walked .ensures)
 
 pub matched-spec : {M : Type 1} → statement M
 matched-spec =

@@ -14,7 +14,7 @@ returns : tie.Need-returns
 returns c =
     let s = c .before .before .before in
     lies-at-end (s .args .rows .now) (stretch-length (s .args .prod0) (s .args .k) (s .args .rows .now)
-        (s .args .tokens .now) (sym (c .before .row-slice .ensures) ∙ c .if1 .taken))
+    (s .args .tokens .now) (sym (c .before .row-slice .ensures) ∙ c .if1 .taken))
 
 plain-requires : tie.Need-plain-requires
 plain-requires c κs = search needs
@@ -32,21 +32,21 @@ returns-2 c =
     let s = i .before .before .before in
     let j = rw (c .enum-told2 .given .1) at (rw (same (s .args .prod0) (s .fits .prod0)) at (v .plain .ensures)) in
     lies-at-end (s .args .rows .now) (stretch-refused (s .args .prod0) (s .args .k) (s .args .rows .now)
-        (s .args .tokens .now) (sym (i .before .row-slice .ensures) ∙ i .if1 .left) _ j)
+    (s .args .tokens .now) (sym (i .before .row-slice .ensures) ∙ i .if1 .left) _ j)
 
 walked-requires : tie.Need-walked-requires
 walked-requires c κs =
     let v = c .before .before in
     let s = v .before .before .before .before in
     plain-passed (s .args .prod0) (s .args .k) (s .args .rows .now) (rw (c .enum-told .given .1) at (rw (same
-        (s .args .prod0) (s .fits .prod0)) at (v .plain .ensures)))
+    (s .args .prod0) (s .fits .prod0)) at (v .plain .ensures)))
 
 left-rows-requires : tie.Need-left-rows-requires
 left-rows-requires c κs =
     let v = c .before .before .before in
     let s = v .before .before .before .before in
     plain-passed (s .args .prod0) (s .args .k) (s .args .rows .now) (rw (c .before .enum-told .given .1) at (rw
-        (same (s .args .prod0) (s .fits .prod0)) at (v .plain .ensures)))
+    (same (s .args .prod0) (s .fits .prod0)) at (v .plain .ensures)))
 
 returns-3 : tie.Need-returns-3
 returns-3 c =
@@ -55,9 +55,9 @@ returns-3 c =
     let i = v .before in
     let s = i .before .before .before in
     let j = rw (w .before .enum-told .given .1) at (rw (same (s .args .prod0) (s .fits .prod0)) at
-        (v .plain .ensures)) in
+    (v .plain .ensures)) in
     rw (sym (stretch-passed (s .args .prod0) (s .args .k) (s .args .rows .now) (s .args .tokens .now) (sym
-        (i .before .row-slice .ensures) ∙ i .if1 .left) (stopped (w .walked .result)) j (w .walked .ensures)))
+    (i .before .row-slice .ensures) ∙ i .if1 .left) (stopped (w .walked .result)) j (w .walked .ensures)))
     (c .left-rows .ensures)
 
 pub place-spec : {M : Type 1} → statement M

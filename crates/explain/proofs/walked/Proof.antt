@@ -15,7 +15,7 @@ use Rattle.explain.proofs.walked.Tie as tie
 abbrev Inv-loop : tie.InvT-loop
 Inv-loop rows tokens state₀ i₀ state i =
     (i ≤ length tokens) × (state ≤ 65535) × (stop (rows-in rows) 0 0 tokens ≡ stop (rows-in rows) state i
-        (drop i tokens))
+    (drop i tokens))
 
 abbrev μ-loop : tie.MeasureT-loop
 μ-loop rows tokens state₀ i₀ state i = length tokens - i
@@ -54,13 +54,13 @@ returns c =
     let w = c .before .before .before .wide .ensures .0 in
     let e = ap (find (rows-in (a .rows .now)) (l .loop .state)) (sym w) ∙ f .0 in
     sym (l .loop .inv .2 ∙ stop-here (rows-in (a .rows .now)) (a .tokens .now) (l .loop .state) (l .loop .i)
-        (omega arith) e)
+    (omega arith) e)
 
 -- the row that the search found
 there : (c : tie.After-known-told Inv-loop μ-loop)
     → let l = c .before .before .before .before .before .before .before in
     Finds (l .before .before .args .rows .now) (l .loop .state) (c .before .before .before .before .wide .result)
-        (At (c .before .found .given .0 .0))
+    (At (c .before .found .given .0 .0))
 there c = rw (c .before .found .given .1) at (c .before .before .before .find .ensures)
 
 to-at-requires : tie.Need-to-at-requires Inv-loop μ-loop
@@ -86,18 +86,20 @@ loop-again c =
     let s = l .before .before in
     let f = fit-at (s .pre) _ (there t .0) in
     let w = t .before .before .before .before .wide .ensures .0 in
-    let e = ap (find (rows-in (s .args .rows .now)) (l .loop .state)) (sym w) ∙ there t .1 in
-    (omega arith, omega (arith, c .to-at .ensures .is, f .to),
-     l .loop .inv .2
-     ∙ stop-on (rows-in (s .args .rows .now)) (s .args .tokens .now) (l .loop .state) (l .loop .i)
-         (omega arith) _ _ e (c .to-at .ensures .is))
+    let e = ap (find (rows-in (s .args .rows .now)) (l .loop .state)) (sym w) ∙ there t .1 in (
+      omega arith,
+      omega (arith, c .to-at .ensures .is, f .to),
+      l .loop .inv .2
+          ∙ stop-on (rows-in (s .args .rows .now)) (s .args .tokens .now) (l .loop .state) (l .loop .i)
+          (omega arith) _ _ e (c .to-at .ensures .is),
+    )
 
 returns-2 : tie.Need-returns-2 Inv-loop μ-loop
 returns-2 c =
     let l = c .before in
     let a = l .before .before .args in
     sym (l .loop .inv .2 ∙ stop-end (rows-in (a .rows .now)) (a .tokens .now) (l .loop .state) (l .loop .i)
-        (omega arith))
+    (omega arith))
 
 pub walked-spec : {M : Type 1} → statement M
 walked-spec =

@@ -22,15 +22,15 @@ returns : tie.Need-returns
 returns c =
     let s = c .before .before .before in
     answers-last (s .args .mode) (accepting (s .args .prod0)) (s .args .w .entered) (s .args .w .last) _
-        (c .before .last .given .1)
+    (c .before .last .given .1)
 
 returns-2 : tie.Need-returns-2
 returns-2 c =
     let s = c .before .before .before in
     answers-none (s .args .mode) (accepting (s .args .prod0)) (s .args .w .entered) (s .args .w .last) _
-        (c .before .enum-told .given .1)
+    (c .before .enum-told .given .1)
     (c .fallback .ensures ∙ ap (λ (z : ℤ). fallback (s .args .mode) (accepting z) (s .args .w .entered))
-        (toZ-ofZ {w = w32} (s .fits .prod0)))
+    (toZ-ofZ {w = w32} (s .fits .prod0)))
 
 pub answer-spec : {M : Type 1} → statement M
 answer-spec = tie.close (tie.spec enum-known-last enum-told fallback-requires returns returns-2)

@@ -18,15 +18,16 @@ slice-aggregate-walked c = sym (length-take-le (c .before .before .args .k) (c .
 walked-requires : tie.Need-walked-requires
 walked-requires c κs =
     let s = c .before .before in
-    let b = plain-bounded (table (s .args .prod0) (s .args .k) (s .args .rows .now)) (s .pre .0 .checked) in
-    (plain-passed (s .args .prod0) (s .args .k) (s .args .rows .now) (s .pre .0 .checked),
-     omega (arith, length-take-le (s .args .k) (s .args .tokens .now) (s .pre .1), b .k))
+    let b = plain-bounded (table (s .args .prod0) (s .args .k) (s .args .rows .now)) (s .pre .0 .checked) in (
+      plain-passed (s .args .prod0) (s .args .k) (s .args .rows .now) (s .pre .0 .checked),
+      omega (arith, length-take-le (s .args .k) (s .args .tokens .now) (s .pre .1), b .k),
+    )
 
 answer-requires : tie.Need-answer-requires
 answer-requires c κs =
     let s = c .before .before .before in
     rw (same (s .args .prod0) (s .fits .prod0)) (plain-bounded (table (s .args .prod0) (s .args .k)
-        (s .args .rows .now)) (s .pre .0 .checked) .prod0)
+    (s .args .rows .now)) (s .pre .0 .checked) .prod0)
 
 returns : tie.Need-returns
 returns c =
@@ -35,8 +36,8 @@ returns c =
     chosen-by (s .args .mode) (s .args .prod0) (s .args .k) (s .args .rows .now) 0 (s .args .tokens .now)
     (seen (d .walked .result)) _ (d .walked .ensures)
     (c .answer .ensures ∙ ap (λ (z : ℤ). answer (s .args .mode) (accepting z) (d .walked .result .entered)
-        (reached (d .walked .result .last)))
-      (same (s .args .prod0) (s .fits .prod0)))
+    (reached (d .walked .result .last)))
+    (same (s .args .prod0) (s .fits .prod0)))
 
 pub chosen-spec : {M : Type 1} → statement M
 chosen-spec = tie.close (tie.spec slice-aggregate-walked walked-requires answer-requires returns)

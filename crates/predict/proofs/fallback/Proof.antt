@@ -40,7 +40,7 @@ returns-2 c =
     let s = d .before in
     let e = read-passed (λ z. code (accepting z)) (s .args .prod0) _ (s .fits .prod0) (d .coded .ensures) in
     falls-intake (s .args .mode) (accepting (s .args .prod0)) (s .args .entered) _ (e .is) (i .if1 .left)
-        (c .enum-told .given .1)
+    (c .enum-told .given .1)
 
 returns-3 : tie.Need-returns-3
 returns-3 c =
@@ -49,7 +49,7 @@ returns-3 c =
     let s = d .before in
     let e = read-passed (λ z. code (accepting z)) (s .args .prod0) _ (s .fits .prod0) (d .coded .ensures) in
     falls-zero (s .args .mode) (accepting (s .args .prod0)) (s .args .entered) _ (e .is) (i .if1 .left)
-        (c .before .enum-told2 .given .1) (c .if2 .taken)
+    (c .before .enum-told2 .given .1) (c .if2 .taken)
 
 returns-4 : tie.Need-returns-4
 returns-4 c =
@@ -58,7 +58,7 @@ returns-4 c =
     let s = d .before in
     let e = read-passed (λ z. code (accepting z)) (s .args .prod0) _ (s .fits .prod0) (d .coded .ensures) in
     falls-root (s .args .mode) (accepting (s .args .prod0)) (s .args .entered) _ (e .is) (i .if1 .left)
-        (c .before .enum-told2 .given .1) (c .if2 .left)
+    (c .before .enum-told2 .given .1) (c .if2 .left)
 
 pub fallback-spec : {M : Type 1} → statement M
 fallback-spec =

@@ -15,7 +15,7 @@ returns : tie.Need-returns
 returns c =
     let s = c .before .before .before in
     refused-length (s .args .mode) (s .args .prod0) (s .args .k) (s .args .rows .now) (s .args .stream)
-        (s .args .tokens .now) (sym (c .before .row-slice .ensures) ∙ c .if1 .taken)
+    (s .args .tokens .now) (sym (c .before .row-slice .ensures) ∙ c .if1 .taken)
 
 plain-requires : tie.Need-plain-requires
 plain-requires c κs = search needs
@@ -38,8 +38,8 @@ returns-2 c =
     let i = v .before in
     let s = i .before .before .before in
     after-checks (s .args .mode) (s .args .prod0) (s .args .k) (s .args .rows .now) (s .args .stream)
-        (s .args .tokens .now) (sym (i .before .row-slice .ensures) ∙ i .if1 .left) _ (rw
-        (c .before .verdict .given .1) at (rw (same (s .args .prod0) (s .fits .prod0)) at (v .plain .ensures)))
+    (s .args .tokens .now) (sym (i .before .row-slice .ensures) ∙ i .if1 .left) _ (rw
+    (c .before .verdict .given .1) at (rw (same (s .args .prod0) (s .fits .prod0)) at (v .plain .ensures)))
 
 returns-3 : tie.Need-returns-3
 returns-3 c =
@@ -48,11 +48,11 @@ returns-3 c =
     let s = i .before .before .before in
     c .predict-checked .ensures
     ∙ ap (λ (z : ℤ). checked (s .args .mode) (table z (s .args .k) (s .args .rows .now)) (s .args .stream)
-        (s .args .tokens .now))
-      (same (s .args .prod0) (s .fits .prod0))
+    (s .args .tokens .now))
+    (same (s .args .prod0) (s .fits .prod0))
     ∙ after-checks (s .args .mode) (s .args .prod0) (s .args .k) (s .args .rows .now) (s .args .stream)
-        (s .args .tokens .now) (sym (i .before .row-slice .ensures) ∙ i .if1 .left) _ (rw
-        (c .before .enum-told .given .1) at (rw (same (s .args .prod0) (s .fits .prod0)) at (v .plain .ensures)))
+    (s .args .tokens .now) (sym (i .before .row-slice .ensures) ∙ i .if1 .left) _ (rw
+    (c .before .enum-told .given .1) at (rw (same (s .args .prod0) (s .fits .prod0)) at (v .plain .ensures)))
 
 pub predict-spec : {M : Type 1} → statement M
 predict-spec =

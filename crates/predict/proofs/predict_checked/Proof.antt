@@ -31,8 +31,8 @@ returns-3 c =
     let s = d .before .before in
     simp (le-ltb _ _ (d .if1 .left), le-ltb _ _ (c .before .if2 .left))
     (c .chosen .ensures ∙ ap (λ (z : ℤ). chosen (s .args .mode) (table z (s .args .k) (s .args .rows .now))
-        (s .args .tokens .now))
-      (same (s .args .prod0) (s .fits .prod0)))
+    (s .args .tokens .now))
+    (same (s .args .prod0) (s .fits .prod0)))
 
 pub predict-checked-spec : {M : Type 1} → statement M
 predict-checked-spec = tie.close (tie.spec returns returns-2 chosen-requires returns-3)

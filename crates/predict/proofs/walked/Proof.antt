@@ -14,7 +14,7 @@ use Rattle.predict.proofs.walked.Tie as tie
 abbrev Inv-loop : tie.InvT-loop
 Inv-loop rows tokens w₀ i₀ w i =
     (i ≤ length tokens) × (w .entered ≤ i) × (walk (rows-in rows) tokens start ≡ walk (rows-in rows)
-        (drop i tokens) (seen w))
+    (drop i tokens) (seen w))
 
 abbrev μ-loop : tie.MeasureT-loop
 μ-loop rows tokens w₀ i₀ w i = length tokens - i
@@ -25,9 +25,11 @@ start-requires c κs = tt
 loop-holds : tie.Need-loop-holds Inv-loop μ-loop
 unfolding start
 loop-holds c =
-    let e = c .start .ensures in
-    (omega arith, omega (arith, ap (λ (w : paper.Walk). w .entered) e),
-     ap (walk (rows-in (c .before .before .args .rows .now)) (c .before .before .args .tokens .now)) (sym e))
+    let e = c .start .ensures in (
+      omega arith,
+      omega (arith, ap (λ (w : paper.Walk). w .entered) e),
+      ap (walk (rows-in (c .before .before .args .rows .now)) (c .before .before .args .tokens .now)) (sym e),
+    )
 
 mul-t5 : tie.Need-mul-t5 Inv-loop μ-loop
 mul-t5 c = search needs
@@ -50,18 +52,19 @@ loop-again c =
     let a = l .before .before .before .args in
     let rs = rows-in (a .rows .now) in
     let t = getD (a .tokens .now) (l .loop .i) 0 in
-    let e = c .step .ensures in
-    (omega arith,
-     omega (arith, step-count rs t (seen (l .loop .w)), ap (λ (w : paper.Walk). w .entered) e),
-     l .loop .inv .2 ∙ walk-next rs (a .tokens .now) (l .loop .i) (seen (l .loop .w)) (seen (c .step .result))
-         (omega arith) e)
+    let e = c .step .ensures in (
+      omega arith,
+      omega (arith, step-count rs t (seen (l .loop .w)), ap (λ (w : paper.Walk). w .entered) e),
+      l .loop .inv .2 ∙ walk-next rs (a .tokens .now) (l .loop .i) (seen (l .loop .w)) (seen (c .step .result))
+          (omega arith) e,
+    )
 
 returns : tie.Need-returns Inv-loop μ-loop
 returns c =
     let l = c .before in
     let a = l .before .before .before .args in
     sym (l .loop .inv .2 ∙ walk-end (rows-in (a .rows .now)) (a .tokens .now) (l .loop .i) (seen (l .loop .w))
-        (omega arith))
+    (omega arith))
 
 pub walked-spec : {M : Type 1} → statement M
 walked-spec =

@@ -26,7 +26,7 @@ returns c =
     let d = c .before in
     let s = d .before .before in
     enters-plain (seen (s .args .self)) (row-at (s .args .rows .now) (s .args .i)) _ _
-      (d .before .to-at .ensures .is) (d .code-at .ensures .is) (c .if1 .taken)
+    (d .before .to-at .ensures .is) (d .code-at .ensures .is) (c .if1 .taken)
 
 sub-q : tie.Need-sub-q
 sub-q c = search needs
@@ -45,7 +45,7 @@ returns-2 c =
     let d = c .before in
     let s = d .before .before in
     enters-accepting (seen (s .args .self)) (row-at (s .args .rows .now) (s .args .i)) _ _
-      (d .before .to-at .ensures .is) (d .code-at .ensures .is) (c .if1 .left)
+    (d .before .to-at .ensures .is) (d .code-at .ensures .is) (c .if1 .left)
 
 pub enter-spec : {M : Type 1} → statement M
 enter-spec =

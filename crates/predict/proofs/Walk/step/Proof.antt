@@ -37,7 +37,7 @@ returns : tie.Need-returns
 returns c =
     let s = c .before .before .before .before .before .before .before .before in
     c .enter .ensures ∙ steps-in (rows-in (s .args .rows .now)) (s .args .token .0) (seen (s .args .self)) _
-        (there (c .before) .1)
+    (there (c .before) .1)
 
 returns-2 : tie.Need-returns-2
 returns-2 c =

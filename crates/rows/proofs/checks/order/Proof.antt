@@ -37,7 +37,7 @@ returns c =
     let j = l .loop .i - 1 in
     let e : j + 1 ≡ l .loop .i = omega arith in
     let k : key (row-at ns (j + 1)) ≤ key (row-at ns j) =
-        rw e (omega (arith, c .before .before .key-at .ensures, c .before .key-at2 .ensures)) in
+    rw e (omega (arith, c .before .before .key-at .ensures, c .before .key-at2 .ensures)) in
     ap not (sym (l .loop .inv .1 ∙ rising-fails ns j (s .pre) (omega arith) k))
 
 add-i : tie.Need-add-i Inv-loop μ-loop
@@ -55,9 +55,11 @@ loop-again c =
     let e : j + 1 ≡ l .loop .i = omega arith in
     let d : l .loop .i + 1 - 1 ≡ j + 1 = omega arith in
     let k : key (row-at ns j) < key (row-at ns (j + 1)) =
-        rw e (omega (arith, c .before .before .key-at .ensures, c .before .key-at2 .ensures)) in
-    (omega arith, l .loop .inv .1 ∙ rising-next ns j (s .pre) (omega arith) k ∙ ap (λ (m : ℕ). rising (rest ns m))
-        (sym d))
+    rw e (omega (arith, c .before .before .key-at .ensures, c .before .key-at2 .ensures)) in (
+      omega arith,
+      l .loop .inv .1 ∙ rising-next ns j (s .pre) (omega arith) k ∙ ap (λ (m : ℕ). rising (rest ns m))
+          (sym d),
+    )
 
 returns-2 : tie.Need-returns-2 Inv-loop μ-loop
 unfolding order

@@ -24,7 +24,7 @@ returns-2 c =
     let f = c .before .before in
     let s = f .before .before in
     terminal-out (row-at (s .args .rows .now) (s .args .i))
-      (omega (arith, f .before .from-at .ensures .is)) (omega (arith, c .before .terminal-at .ensures .is))
+    (omega (arith, f .before .from-at .ensures .is)) (omega (arith, c .before .terminal-at .ensures .is))
 
 to-at-requires : tie.Need-to-at-requires
 to-at-requires c κs = search needs
@@ -35,8 +35,8 @@ returns-3 c =
     let f = t .before .before in
     let s = f .before .before in
     to-out (row-at (s .args .rows .now) (s .args .i))
-      (omega (arith, f .before .from-at .ensures .is)) (omega (arith, t .before .terminal-at .ensures .is))
-      (omega (arith, c .before .to-at .ensures .is))
+    (omega (arith, f .before .from-at .ensures .is)) (omega (arith, t .before .terminal-at .ensures .is))
+    (omega (arith, c .before .to-at .ensures .is))
 
 code-at-requires : tie.Need-code-at-requires
 code-at-requires c κs = search needs
@@ -49,8 +49,8 @@ returns-4 c =
     let s = f .before .before in
     ap (λ (x : ℕ). leb x 65536) (c .code-at .ensures .is)
     ∙ production-left (row-at (s .args .rows .now) (s .args .i))
-      (omega (arith, f .before .from-at .ensures .is)) (omega (arith, t .before .terminal-at .ensures .is))
-      (omega (arith, g .before .to-at .ensures .is))
+    (omega (arith, f .before .from-at .ensures .is)) (omega (arith, t .before .terminal-at .ensures .is))
+    (omega (arith, g .before .to-at .ensures .is))
 
 pub row-fits-spec : {M : Type 1} → statement M
 row-fits-spec =

@@ -36,7 +36,7 @@ returns c =
     let l = c .before .before .before .before in
     let ns = l .before .args .rows .now in
     let k : row-at ns (l .loop .i) .to ≤ row-at ns (l .loop .i) .from =
-        omega (arith, c .before .before .to-at .ensures, c .before .from-at .ensures) in
+    omega (arith, c .before .before .to-at .ensures, c .before .from-at .ensures) in
     sym (l .loop .inv ∙ any-here falls ns (l .loop .i) (omega arith) (le-leb _ _ k))
 
 add-i : tie.Need-add-i Inv-loop μ-loop
@@ -50,7 +50,7 @@ loop-again c =
     let l = c .before .before .before .before in
     let ns = l .before .args .rows .now in
     let k : row-at ns (l .loop .i) .from < row-at ns (l .loop .i) .to =
-        omega (arith, c .before .before .to-at .ensures, c .before .from-at .ensures) in
+    omega (arith, c .before .before .to-at .ensures, c .before .from-at .ensures) in
     l .loop .inv ∙ any-next falls ns (l .loop .i) (omega arith) (lt-leb _ _ k)
 
 returns-2 : tie.Need-returns-2 Inv-loop μ-loop

@@ -25,7 +25,7 @@ returns : tie.Need-returns
 returns c =
     let a = c .before .before .args in
     s.read-at (λ z. code (accepting z)) (a .rows .now) (a .i * 4 + 3) _ (c .before .coded-arg .given)
-        (c .coded .ensures)
+    (c .coded .ensures)
 
 pub code-at-spec : {M : Type 1} → statement M
 code-at-spec =

@@ -17,9 +17,11 @@ lower-requires c κs = search needs
 returns : tie.Need-returns
 returns c =
     let s = c .before .before in
-    let a = s .args in
-    (missing-end (a .rows .now) (a .state) (a .terminal) _ (c .before .lower .ensures)
-        (omega arith), c .before .lower .ensures)
+    let a = s .args in (
+      missing-end (a .rows .now) (a .state) (a .terminal) _ (c .before .lower .ensures)
+          (omega arith),
+      c .before .lower .ensures,
+    )
 
 key-requires : tie.Need-key-requires
 key-requires c κs = search needs
@@ -29,17 +31,21 @@ returns-2 c =
     let l = c .before .before .before in
     let s = l .before in
     let a = s .args in
-    let e = sym (c .before .key .ensures) ∙ c .if2 .taken in
-    (omega arith, found (a .rows .now) (a .state) (a .terminal) _ (l .lower .ensures) (s .pre .0) (s .pre .2)
-        (omega arith) e)
+    let e = sym (c .before .key .ensures) ∙ c .if2 .taken in (
+      omega arith,
+      found (a .rows .now) (a .state) (a .terminal) _ (l .lower .ensures) (s .pre .0) (s .pre .2)
+          (omega arith) e,
+    )
 
 returns-3 : tie.Need-returns-3
 returns-3 c =
     let l = c .before .before .before in
     let s = l .before in
-    let a = s .args in
-    (missing-here (a .rows .now) (a .state) (a .terminal) _ (l .lower .ensures) (s .pre .0) (omega arith)
-      (λ e. c .if2 .left (c .before .key .ensures ∙ e)), l .lower .ensures)
+    let a = s .args in (
+      missing-here (a .rows .now) (a .state) (a .terminal) _ (l .lower .ensures) (s .pre .0) (omega arith)
+          (λ e. c .if2 .left (c .before .key .ensures ∙ e)),
+      l .lower .ensures,
+    )
 
 pub find-spec : {M : Type 1} → statement M
 find-spec =

@@ -56,8 +56,12 @@ add-result-2 c =
     let s = r .before in
     let f = fit-at (s .pre .0) (s .args .i) (s .pre .1) in
     let b : natural (getD (s .args .rows .now) (s .args .i * 4) (pos 0)) ≤ 65535 = omega (arith, f .from) in
-    omega (arith, plain-read (getD (s .args .rows .now) (s .args .i * 4) (pos 0)) b (r .result .given), plain-read
-        (getD (s .args .rows .now) (s .args .i * 4 + 1) (pos 0)) (f .terminal) (c .result2 .given))
+    omega (
+      arith,
+      plain-read (getD (s .args .rows .now) (s .args .i * 4) (pos 0)) b (r .result .given),
+      plain-read
+          (getD (s .args .rows .now) (s .args .i * 4 + 1) (pos 0)) (f .terminal) (c .result2 .given),
+    )
 
 returns : tie.Need-returns
 returns c =
@@ -65,8 +69,12 @@ returns c =
     let s = r .before in
     let f = fit-at (s .pre .0) (s .args .i) (s .pre .1) in
     let b : natural (getD (s .args .rows .now) (s .args .i * 4) (pos 0)) ≤ 65535 = omega (arith, f .from) in
-    omega (arith, plain-read (getD (s .args .rows .now) (s .args .i * 4) (pos 0)) b (r .result .given), plain-read
-        (getD (s .args .rows .now) (s .args .i * 4 + 1) (pos 0)) (f .terminal) (c .result2 .given))
+    omega (
+      arith,
+      plain-read (getD (s .args .rows .now) (s .args .i * 4) (pos 0)) b (r .result .given),
+      plain-read
+          (getD (s .args .rows .now) (s .args .i * 4 + 1) (pos 0)) (f .terminal) (c .result2 .given),
+    )
 
 pub key-spec : {M : Type 1} → statement M
 key-spec =

@@ -33,7 +33,7 @@ returns-3 c =
     let k = c .before .before in
     let s = k .before .before in
     scanned (s .pre) 32 (s .args .x) _ (c .scan2 .ensures) (omega arith)
-      (λ q. absurd (omega (arith, c .scan2 .ensures .below .row 31 (omega arith), k .key .ensures)))
+    (λ q. absurd (omega (arith, c .scan2 .ensures .below .row 31 (omega arith), k .key .ensures)))
 
 pub lower-spec : {M : Type 1} → statement M
 lower-spec =

@@ -14,13 +14,13 @@ returns : tie.Need-returns
 returns c =
     let s = c .before .before in
     refuses Range refl refl (range-passed (s .args .prod0) (s .args .k) (s .args .rows .now) _ (s .fits .prod0)
-        (c .before .range .ensures) ∙ c .if1 .taken)
+    (c .before .range .ensures) ∙ c .if1 .taken)
 
 order-requires : tie.Need-order-requires
 order-requires c κs =
     let s = c .before .before in
     rows-fit (table (s .args .prod0) (s .args .k) (s .args .rows .now)) (range-passed (s .args .prod0)
-        (s .args .k) (s .args .rows .now) _ (s .fits .prod0) (c .before .range .ensures) ∙ c .if1 .left)
+    (s .args .k) (s .args .rows .now) _ (s .fits .prod0) (c .before .range .ensures) ∙ c .if1 .left)
 
 returns-2 : tie.Need-returns-2
 unfolding order
@@ -28,7 +28,7 @@ returns-2 c =
     let d = c .before .before in
     let s = d .before .before in
     next-check (range-passed (s .args .prod0) (s .args .k) (s .args .rows .now) _ (s .fits .prod0)
-        (d .before .range .ensures) ∙ d .if1 .left)
+    (d .before .range .ensures) ∙ d .if1 .left)
     (refuses Order refl refl (sym (c .before .order .ensures) ∙ c .if2 .taken))
 
 returns-3 : tie.Need-returns-3
@@ -37,7 +37,7 @@ returns-3 c =
     let d = c .before .before in
     let s = d .before .before in
     next-check (range-passed (s .args .prod0) (s .args .k) (s .args .rows .now) _ (s .fits .prod0)
-        (d .before .range .ensures) ∙ d .if1 .left)
+    (d .before .range .ensures) ∙ d .if1 .left)
     (next-check (sym (c .before .order .ensures) ∙ c .if2 .left) done)
 
 pub plain-spec : {M : Type 1} → statement M
