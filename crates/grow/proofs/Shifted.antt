@@ -13,7 +13,7 @@ use mir.Val.{toZ, ofZ}
 use Rattle.paper.specs.Rows.{signed}
 use Rattle.rows.specs.Places.{uncoded}
 use Rattle.rows.proofs.Signed.{same}
-use Rattle.grow.specs.Moves.{over-row, up-row, opened, inserted}
+use Rattle.grow.specs.Moves.{over-row, up-row, up-four, opened, inserted}
 
 -- four numbers stored one after the other
 pub stored : (l : List ℤ) (i : ℕ) (w x y z : ℤ) → i * 4 + 3 < length l
@@ -98,6 +98,20 @@ module _ (l : List ℤ) (n : ℕ) (room : n * 4 + 3 < length l) where
   unfolding opened inserted
   fill p w x y z h =
       put-after l (take (n * 4 - p * 4) (drop (p * 4) l) ++ drop (n * 4 + 4) l) (p * 4 + 4) p w x y z refl (omega arith)
+
+  -- four steps at once
+  pub open-four : (k : ℕ) → k + 4 ≤ n → up-four (opened l n (k + 4)) k ≡ opened l n k
+  open-four k h =
+      let a : k + 4 ≡ k + 3 + 1 = omega arith in
+      let b : k + 3 ≡ k + 2 + 1 = omega arith in
+      let c : k + 2 ≡ k + 1 + 1 = omega arith in
+      ap (λ (m : List ℤ). up-row (up-row (up-row m (k + 2)) (k + 1)) k)
+      (ap (λ (j : ℕ). up-row (opened l n j) (k + 3)) a ∙ open-step (k + 3) (omega arith))
+      ∙ ap (λ (m : List ℤ). up-row (up-row m (k + 1)) k)
+      (ap (λ (j : ℕ). up-row (opened l n j) (k + 2)) b ∙ open-step (k + 2) (omega arith))
+      ∙ ap (λ (m : List ℤ). up-row m k)
+      (ap (λ (j : ℕ). up-row (opened l n j) (k + 1)) c ∙ open-step (k + 1) (omega arith))
+      ∙ open-step k (omega arith)
 
 pub insert-same : (l : List ℤ) (n p : ℕ) {w x y z a b c d : ℤ} → w ≡ a → x ≡ b → y ≡ c → z ≡ d
     → inserted l n p w x y z ≡ inserted l n p a b c d

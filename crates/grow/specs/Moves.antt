@@ -13,6 +13,10 @@ abbrev pub up-row : List ℤ → ℕ → List ℤ
 up-row l i = over-row l (i + 1)
     (getD l (i * 4) (pos 0)) (getD l (i * 4 + 1) (pos 0)) (getD l (i * 4 + 2) (pos 0)) (getD l (i * 4 + 3) (pos 0))
 
+-- Rows i + 4 to i + 1 are what the rows before them are.
+abbrev pub up-four : List ℤ → ℕ → List ℤ
+up-four l i = up-row (up-row (up-row (up-row l (i + 3)) (i + 2)) (i + 1)) i
+
 -- The rows from p on, of n, stand one row higher; row p stands where it stood as well.
 unfoldable pub opened : List ℤ → ℕ → ℕ → List ℤ
 opened l n p = take (p * 4 + 4) l ++ (take (n * 4 - p * 4) (drop (p * 4) l) ++ drop (n * 4 + 4) l)

@@ -8,7 +8,7 @@ ghost use Prim.Native.Nat.{_+_, _*_, _<_, _≤_, max};
 ghost use lib.ListN.{length};
 ghost use Rattle.paper.specs.Answers.{Makes};
 ghost use Rattle.paper.specs.Build.{within};
-ghost use Rattle.grow.specs.Moves.{over-row, up-row, opened, inserted, front};
+ghost use Rattle.grow.specs.Moves.{over-row, up-row, up-four, opened, inserted, front};
 ghost use Rattle.grow.specs.Held.{Laid, table-of, Adding, Added, Giving, Given};
 
 // Row i becomes four numbers.
@@ -34,13 +34,29 @@ fn move_row(buf: &mut [i32], i: usize)
     put_row(buf, i + 1, w, x, y, z);
 }
 
-// The rows from p on, of n, go up by one row, the last first.
+// Rows i to i + 3 are each copied to the next, the last first.
+fn move_four(buf: &mut [i32], i: usize)
+    requires { ⌜ i * 4 + 19 < length (now buf) ⌝ }
+    ensures { λ _. ⌜ now (buf .exit) ≡ up-four (now (buf .entry)) i ⌝ }
+{
+    move_row(buf, i + 3);
+    move_row(buf, i + 2);
+    move_row(buf, i + 1);
+    move_row(buf, i);
+}
+
+// The rows from p on, of n, go up by one row, the last first; four a turn cost less than one.
 fn open_rows(buf: &mut [i32], n: usize, p: usize)
     requires { ⌜ (p ≤ n) × (n * 4 + 3 < length (now buf)) ⌝ }
     ensures { λ _. ⌜ now (buf .exit) ≡ opened (now (buf .entry)) n p ⌝ }
 {
     let mut i = n;
     while p < i {
+        if p + 4 <= i {
+            i -= 4;
+            move_four(buf, i);
+            continue;
+        }
         i -= 1;
         move_row(buf, i);
     }

@@ -5,12 +5,13 @@ use native.Mathlib.Omega.{arith}
 use lib.ListN.{length}
 use lib.IntN.{ℤ}
 use borrow.Author.Needs.{needs}
-use Rattle.grow.specs.Moves.{up-row, opened}
-use Rattle.grow.proofs.Shifted.{open-none, open-step}
+use Rattle.grow.specs.Moves.{up-row, up-four, opened}
+use Rattle.grow.proofs.Shifted.{open-none, open-step, open-four}
 use Rattle.grow.proofs.open_rows.Statement.{statement}
 use Rattle.grow.proofs.open_rows.Tie as tie
 use Rattle.grow.proofs.open_rows.Reads as reads
 use Rattle.grow.proofs.open_rows.Lts as lts
+use Rattle.grow.proofs.move_four.Reads as move-four-reads
 use Rattle.grow.proofs.move_row.Reads as move-row-reads
 
 abbrev Inv-loop : tie.InvT-loop
@@ -19,44 +20,77 @@ Inv-loop buf₀ n p i₀ buf i = (p ≤ i) × (i ≤ n) × (length buf ≡ lengt
 abbrev μ-loop : tie.MeasureT-loop
 μ-loop buf₀ n p i₀ buf i = i
 
--- src/lib.rt:44:5
+-- src/lib.rt:54:5
 loop-holds : tie.Need-loop-holds Inv-loop μ-loop
 loop-holds c = (omega arith, omega arith, refl, open-none (c .args .buf .now) (c .args .n) (c .pre .1))
 
--- src/lib.rt:45:9
+-- src/lib.rt:55:12
+add-if1 : tie.Need-add-if1 Inv-loop μ-loop
+add-if1 c = search needs
+
+-- src/lib.rt:56:13
 sub-i : tie.Need-sub-i Inv-loop μ-loop
 sub-i c = search needs
 
--- src/lib.rt:46:9
-move-row-requires : tie.Need-move-row-requires Inv-loop μ-loop
-move-row-requires c κs = search needs
+-- src/lib.rt:57:13
+move-four-requires : tie.Need-move-four-requires Inv-loop μ-loop
+move-four-requires c κs = search needs
 
--- src/lib.rt:44:5
+-- src/lib.rt:54:5
 loop-less : tie.Need-loop-less Inv-loop μ-loop
 loop-less c = search needs
 
--- src/lib.rt:44:5
+-- src/lib.rt:54:5
 loop-again : tie.Need-loop-again Inv-loop μ-loop
 loop-again c =
-    let l = c .before .before .before .before in
+    let l = c .before .before .before .before .before in
+    let s = l .before in
+    let b = s .args .buf .now in
+    let n = s .args .n in
+    let k = l .loop .i - 4 in
+    let e : l .loop .i ≡ k + 4 = omega arith in (
+      omega arith,
+      omega arith,
+      c .before .move-four .kept .0 ∙ l .loop .inv .2,
+      c .before .move-four .ensures
+          ∙ ap (λ (m : List ℤ). up-four m k) (l .loop .inv .3 ∙ ap (opened b n) e)
+          ∙ open-four b n (s .pre .1) k (omega arith),
+    )
+
+-- src/lib.rt:60:9
+sub-i-2 : tie.Need-sub-i-2 Inv-loop μ-loop
+sub-i-2 c = search needs
+
+-- src/lib.rt:61:9
+move-row-requires : tie.Need-move-row-requires Inv-loop μ-loop
+move-row-requires c κs = search needs
+
+-- src/lib.rt:54:5
+loop-less-2 : tie.Need-loop-less-2 Inv-loop μ-loop
+loop-less-2 c = search needs
+
+-- src/lib.rt:54:5
+loop-again-2 : tie.Need-loop-again-2 Inv-loop μ-loop
+loop-again-2 c =
+    let l = c .before .before .before .before .before in
     let s = l .before in
     let b = s .args .buf .now in
     let n = s .args .n in
     let k = l .loop .i - 1 in
     let e : l .loop .i ≡ k + 1 = omega arith in (
-      search needs,
-      search needs,
+      omega arith,
+      omega arith,
       c .before .move-row .kept .0 ∙ l .loop .inv .2,
       c .before .move-row .ensures
           ∙ ap (λ (m : List ℤ). up-row m k) (l .loop .inv .3 ∙ ap (opened b n) e)
           ∙ open-step b n (s .pre .1) k (omega arith),
     )
 
--- src/lib.rt:39:1
+-- src/lib.rt:49:1
 same-length : tie.Need-same-length Inv-loop μ-loop
 same-length c = search needs
 
--- src/lib.rt:39:1
+-- src/lib.rt:49:1
 returns : tie.Need-returns Inv-loop μ-loop
 returns c =
     let s = c .before .before in
@@ -70,9 +104,14 @@ open-rows-spec =
     Inv-loop
     μ-loop
     loop-holds
+    add-if1
     sub-i
-    move-row-requires
+    move-four-requires
     loop-less
     loop-again
+    sub-i-2
+    move-row-requires
+    loop-less-2
+    loop-again-2
     same-length
     returns)
