@@ -12,8 +12,9 @@ use Rattle.promises.specs.Demand.{shrink-made}
 use Rattle.intake.specs.Call.{lists-in, unite-all, lists-lengths, table-of}
 use Rattle.intake.specs.Held.{held, Holds}
 
-pub shrunk-held : (g : Ruling Made) (united : Making) (a : List ℤ) → Holds g united a → (r : Making) (old new : List ℤ) →
-    Makes (then (held united a) shrink-made) r old new → Makes (then g shrink-made) r old new
+pub shrunk-held : (g : Ruling Made) (united : Making) (a : List ℤ) → Holds g united a →
+    (r : Making) (old new : List ℤ) → Makes (then (held united a) shrink-made) r old new →
+    Makes (then g shrink-made) r old new
 shrunk-held g united a h r old new m = rw (h .is) at m
 
 module _ (ps : List ℤ) (cs ns ts : List ℕ) (room : ℕ) (old : List ℤ) where
@@ -23,6 +24,7 @@ module _ (ps : List ℤ) (cs ns ts : List ℕ) (room : ℕ) (old : List ℤ) whe
   refused-lengths e = rw e (record { says = refl; holds = refl })
 
   pub taken : lists-lengths ps cs ns ts room ≡ false → (r : Making) (new : List ℤ) →
-      Makes (then (unite-all (lists-in ps cs ns ts)) shrink-made) r old new → Makes (table-of ps cs ns ts room) r old new
+      Makes (then (unite-all (lists-in ps cs ns ts)) shrink-made) r old new →
+      Makes (table-of ps cs ns ts room) r old new
   unfolding table-of
   taken e r new m = rw e m

@@ -39,11 +39,14 @@ module _ {ps : List ℤ} {cs ns ts : List ℕ} {whole : Ruling Made} {a₀ b₀ 
       Holds (then (held last a) (λ m. join-lent m (record {
         production = getD ps i (pos 0); lengths = take (getD cs i 0) strings; tokens = take n rest }))) last′ a′ →
       Joining ps cs ns ts whole a₀ b₀ work₀ a′ b′ work′ last′
-        (take (length strings - getD cs i 0) (drop (getD cs i 0) strings)) (take (length rest - n) (drop n rest)) (i + 1)
+        (take (length strings - getD cs i 0) (drop (getD cs i 0) strings)) (take (length rest - n) (drop n rest))
+        (i + 1)
   joined-next h a′ b′ work′ last′ n e la lb lw g =
       let c = getD cs i 0 in
       let l : Lent = lent (getD ps i (pos 0)) c strings rest in
-      let ls : List Lent = lists-in (drop (i + 1) ps) (drop (i + 1) cs) (drop c strings) (drop (sum (take c strings)) rest) in
+      let m = sum (take c strings) in
+      let ls : List Lent = lists-in (drop (i + 1) ps) (drop (i + 1) cs) (drop c strings) (drop m rest) in
+      let split = next-list ps cs strings rest i h (j .summed) in
       let is : held last′ a′ ≡ then (held last a) (λ m. join-lent m l) = rw (← e) (g .is) in
       rw (left-is strings c, left-is rest n, e) (record {
         at = omega arith;
@@ -57,20 +60,19 @@ module _ {ps : List ℤ} {cs ns ts : List ℕ} {whole : Ruling Made} {a₀ b₀ 
         };
         summed = next-summed ps cs strings rest i h (j .summed);
         fewer-strings = omega (arith, j .fewer-strings, length-drop c strings);
-        fewer-tokens = omega (arith, j .fewer-tokens, length-drop (sum (take c strings)) rest);
+        fewer-tokens = omega (arith, j .fewer-tokens, length-drop m rest);
         left = ap (λ (r : Ruling Made). then r (λ m. join-all m ls)) is ∙ sym (join-then (held last a) l ls)
-            ∙ ap (λ (x : List Lent). then (held last a) (λ m. join-all m x)) (sym (next-list ps cs strings rest i h (j .summed)))
-            ∙ j .left;
+            ∙ ap (λ (x : List Lent). then (held last a) (λ m. join-all m x)) (sym split) ∙ j .left;
       })
 
   pub joined-all : length ps ≤ i → Holds whole last a
   unfolding lists-in
-  joined-all h = record {
-    is = sym (sym (j .left)
-        ∙ ap (λ (x : List ℤ). then (held last a) (λ m. join-all m (lists-in x (drop i cs) strings rest))) (drop-of-length-le ps h)
-        ∙ join-none (held last a));
-    few = j .ready .few;
-  }
+  joined-all h =
+      let none : lists-in (drop i ps) (drop i cs) strings rest ≡ [] =
+      ap (λ (x : List ℤ). lists-in x (drop i cs) strings rest) (drop-of-length-le ps h) in
+      let all : then (held last a) (λ m. join-all m []) ≡ whole =
+      ap (λ (x : List Lent). then (held last a) (λ m. join-all m x)) (sym none) ∙ j .left in
+      record { is = sym (join-none (held last a)) ∙ all; few = j .ready .few }
 
 pub joined-none : (ps : List ℤ) (cs ns ts : List ℕ) (a b work : List ℤ) (last : Making) → Ready last a b work →
     Summed ps cs ns ts →

@@ -16,8 +16,8 @@ use Rattle.paper.specs.Lists.{Opening, longest}
 use Rattle.trees.specs.Says.{Stands, foretold}
 use Rattle.trees.specs.Chain.{Conflict}
 
--- A table's rows: no string stands under two numbers, no two states are alike, and on any k or more tokens, in a stream
--- whose own k is no smaller, intake predict gives what the lists define.
+-- A table's rows: no string stands under two numbers, no two states are alike, and on any k or more tokens, in a
+-- stream whose own k is no smaller, intake predict gives what the lists define.
 pub record Serves (ls : List Opening) (p : ℤ) (k : ℕ) (rows : List ℤ) (states : ℕ) : Type 0 where
   pub one-number : (σ : List ℕ) (p q : ℕ) → Stands ls σ p → Stands ls σ q → p ≡ q
   pub longest-k : k ≡ longest ls
@@ -27,8 +27,8 @@ pub record Serves (ls : List Opening) (p : ℤ) (k : ℕ) (rows : List ℤ) (sta
   pub predicts : (stream : ℕ) (tokens : List ℕ) → longest ls ≤ stream → longest ls ≤ length tokens →
       predict Intake p k rows stream tokens ≡ foretold ls tokens
 
--- Such a table at the front of the output, or the refusal 8 of a string that stands under two numbers, and the output as
--- it was.
+-- Such a table at the front of the output, or the refusal 8 of a string that stands under two numbers, and the output
+-- as it was.
 pub data Answered (ls : List Opening) (old new : List ℤ) : Making → Type 0 where
   served : {p : ℤ} {k n s : ℕ} → Serves ls p k (take (n * 4) new) s → Answered ls old new (making.Made p k n s)
   clashed : {p q : Production} → Conflict ls (p .0) (q .0) → new ≡ old →

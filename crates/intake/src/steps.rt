@@ -61,12 +61,12 @@ fn unite_two(
     ensures { λ r. ⌜ Holds (unite Intake p k (take (n * 4) (now (a .entry))) q l (take (m * 4) (now (b .entry))) 16384)
         r (now (a .exit)) ⌝ }
 {
-    let made = unite::unite(Mode::Intake, p, k, &a[..n * 4], q, l, &b[..m * 4], work);
-    let Making::Made { prod0: _, k: _, rows, states: _ } = made else {
-        return made;
+    let united = unite::unite(Mode::Intake, p, k, &a[..n * 4], q, l, &b[..m * 4], work);
+    let Making::Made { prod0: _, k: _, rows, states: _ } = united else {
+        return united;
     };
     keep(work, rows * 4, a);
-    made
+    united
 }
 
 // One more list, built and united to what there is.
@@ -114,14 +114,14 @@ fn join_all(
     let mut last = first;
     let mut strings = lengths;
     let mut rest = tokens;
-    let mut i = 0;
-    while i < productions.len() {
-        let c = counts[i];
+    let mut list = 0;
+    while list < productions.len() {
+        let c = counts[list];
         let n = checks::total(&strings[..c], rest);
-        last = join_list(last, productions[i], &rest[..n], &strings[..c], a, b, work);
+        last = join_list(last, productions[list], &rest[..n], &strings[..c], a, b, work);
         strings = &strings[c..];
         rest = &rest[n..];
-        i += 1;
+        list += 1;
     }
     last
 }
@@ -148,12 +148,12 @@ pub fn unite_all(
 }
 
 // The united table shrunk into the output.
-pub fn finish(united: Making, a: &[i32], out: &mut [i32]) -> Making
-    requires { ⌜ Few united × (4092 ≤ length (now a)) × (16384 ≤ length (now out)) ⌝ }
-    ensures { λ r. ⌜ Makes (then (held united (now (a .entry))) shrink-made) r (now (out .entry)) (now (out .exit)) ⌝ }
+pub fn finish(last: Making, a: &[i32], out: &mut [i32]) -> Making
+    requires { ⌜ Few last × (4092 ≤ length (now a)) × (16384 ≤ length (now out)) ⌝ }
+    ensures { λ r. ⌜ Makes (then (held last (now (a .entry))) shrink-made) r (now (out .entry)) (now (out .exit)) ⌝ }
 {
-    let Making::Made { prod0, k, rows, states: _ } = united else {
-        return united;
+    let Making::Made { prod0, k, rows, states: _ } = last else {
+        return last;
     };
     shrink::shrink(Mode::Intake, prod0, k, &a[..rows * 4], out)
 }

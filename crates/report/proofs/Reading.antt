@@ -3,7 +3,7 @@ use Prim.Native.Nat.{ℕ, _*_, _≤_}
 use mathlib.Core.Path.{_≡_, refl, ap, sym, _∙_}
 use mathlib.Core.Bool.{false}
 use mathlib.Core.Option.{Option, none, some}
-use mathlib.Core.List.{List, [], _∷_}
+use mathlib.Core.List.{List, _∷_}
 use native.Mathlib.Omega.{arith}
 use borrow.Author.Tests.{ltb-false}
 use lib.Dec.{ltb}
@@ -14,7 +14,7 @@ use mir.Syntax.{w32}
 use mir.Val.{toZ, ofZ}
 use Rattle.paper.specs.declared.Refusal.{Refusal}
 use Rattle.paper.specs.declared.Reading.the-variants.{Read, Refused}
-use Rattle.paper.specs.Rows.{Row, Table, table, numbers, signed}
+use Rattle.paper.specs.Rows.{Table, table, numbers, signed}
 use Rattle.paper.specs.Answers.{Ruling, accept, refuse, then, Title, Reads, number, detail}
 use Rattle.paper.specs.Checks.{first, plain, range, order, little-room}
 use Rattle.paper.specs.Text.{lines, read-lines, text-in}
@@ -86,7 +86,8 @@ module _ (input : List ℕ) {old new : List ℤ} where
         let same : given ≡ title t = cc in
         let c : n ≡ length (t .rows) = ap (λ (x : Title). x .rows) same in
         let four : length ns ≡ n * 4 = omega (arith, length-numbers (t .rows)) in
-        let at : take (n * 4) new ≡ ns = ap (take (n * 4)) (m .holds) ∙ take-at ns (drop (length ns) old) (n * 4) four in
+        let at : take (n * 4) new ≡ ns =
+        ap (take (n * 4)) (m .holds) ∙ take-at ns (drop (length ns) old) (n * 4) four in
         let whole : table p k (take (n * 4) new) ≡ t =
         rw (at, ap (λ (x : Title). x .prod0) same, ap (λ (x : Title). x .k) same) (table-numbers t) in
         let ok = passed input 16384 t is in

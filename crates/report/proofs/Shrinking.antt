@@ -1,7 +1,6 @@
 -- What shrink answers, as the report on a table goes by it. Assumes nothing.
-use Prim.Native.Nat.{ℕ, _<_, _≤_, _/_}
+use Prim.Native.Nat.{ℕ, _≤_, _/_}
 use mathlib.Core.Path.{_≡_, refl, ap, sym, _∙_}
-use mathlib.Core.Bool.{false}
 use mathlib.Core.List.{List}
 use native.Mathlib.Omega.{arith}
 use borrow.Author.Tests.{le-ltb}
@@ -13,8 +12,8 @@ use Rattle.paper.specs.declared.Refusal.{Refusal}
 use Rattle.paper.specs.declared.Making.the-variants.{Made, Refused}
 use Rattle.paper.specs.Rows.{Table, table, rows-in, states, signed}
 use Rattle.paper.specs.Answers as answers
-use Rattle.paper.specs.Answers.{Ruling, accept, refuse, then, Heading, made, Makes, number, detail}
-use Rattle.paper.specs.Checks.{little-room, row-slice, range, order, shape, loose, split}
+use Rattle.paper.specs.Answers.{Ruling, accept, refuse, then, Heading, Makes, number, detail}
+use Rattle.paper.specs.Checks.{little-room, range, order, shape, loose, split}
 use Rattle.paper.specs.Shrink.{shrunk, shrink-table, shrink}
 use Rattle.paper.specs.Tabrep.{lines-of, line}
 use Rattle.rows.proofs.Rest.{length-rows}

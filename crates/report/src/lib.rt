@@ -70,10 +70,7 @@ fn with_archive(prod0: i32, k: usize, rows: &[i32], spare: &mut [i32], out: &mut
             rows: kept,
             states,
         } => {
-            let sizes = Sizes {
-                states,
-                rows: kept,
-            };
+            let sizes = Sizes { states, rows: kept };
             with_intake(prod0, k, rows, sizes, spare, out)
         }
         Making::Refused(f) => lines::put_refused(out, f),

@@ -1,8 +1,7 @@
 // The lines that are printed.
 use crate::writing;
 use paper::Refusal;
-ghost use mathlib.Core.Path.{_≡_};
-ghost use Prim.Native.Nat.{_+_, _<_, _≤_};
+ghost use Prim.Native.Nat.{_+_, _≤_};
 ghost use lib.ListN.{length};
 ghost use Rattle.paper.specs.Answers.{number, detail, refuse};
 ghost use Rattle.paper.specs.Tabrep.{printed};

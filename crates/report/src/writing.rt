@@ -9,7 +9,8 @@ ghost use Rattle.text.specs.Put.{Puts};
 // A word.
 pub fn put_word(out: &mut [u8], at: usize, word: &[u8]) -> usize
     requires { ⌜ at + length (now word) ≤ length (now out) ⌝ }
-    ensures { λ r. ⌜ Puts (now (out .entry)) at (length (now (word .entry))) (now (word .entry)) (now (out .exit)) r ⌝ }
+    ensures { λ r. ⌜ Puts (now (out .entry)) at (length (now (word .entry)))
+        (now (word .entry)) (now (out .exit)) r ⌝ }
 {
     let mut i = 0;
     while i < word.len() {

@@ -24,7 +24,10 @@ fn ends() {
         b"CR LF",
         b"Dfa(-1, 2)\nTrans(0, 5, 1, 1),\nTrans(0, 7, 3, 1),\r\n",
     );
-    say::bad(b"CR LF after the head", b"Dfa(-1, 2)\r\nTrans(0, 5, 1, 1),\n");
+    say::bad(
+        b"CR LF after the head",
+        b"Dfa(-1, 2)\r\nTrans(0, 5, 1, 1),\n",
+    );
 }
 
 fn numbers() {
@@ -36,7 +39,10 @@ fn numbers() {
     say::bad(b"-0", b"Dfa(-1, 2)\nTrans(0, 5, 1, -0),\n");
     say::bad(b"-2", b"Dfa(-1, 2)\nTrans(0, 5, 1, -2),\n");
     say::bad(b"-10", b"Dfa(-1, 2)\nTrans(0, 5, 1, -10),\n");
-    say::bad(b"+1", b"Dfa(-1, 2)\nTrans(0, 5, 1, 1),\nTrans(0, 7, 3, +1),\n");
+    say::bad(
+        b"+1",
+        b"Dfa(-1, 2)\nTrans(0, 5, 1, 1),\nTrans(0, 7, 3, +1),\n",
+    );
     say::bad(b"six digits", b"Dfa(-1, 2)\nTrans(0, 100000, 1, 1),\n");
     say::bad(b"no digits", b"Dfa(-1, 2)\nTrans(0, , 1, 1),\n");
     say::bad(b"-1 for k", b"Dfa(-1, -1)\n");
@@ -75,6 +81,9 @@ fn lines() {
 // A line out of form is refused before a number out of bounds, and the first such line is named.
 fn first() {
     say::bad(b"before 2", b"Dfa(-1, 17)\nTrans(0, 65536, 1, 1),\nx\n");
-    say::bad(b"before 3", b"Dfa(-1, 2)\nTrans(0, 7, 1, 1),\nTrans(0, 5, 2, 1),\nx");
+    say::bad(
+        b"before 3",
+        b"Dfa(-1, 2)\nTrans(0, 7, 1, 1),\nTrans(0, 5, 2, 1),\nx",
+    );
     say::bad(b"two bad lines", b"Dfa(-1, 2)\nTrans(0, 5, 1, 1),\nx\ny\n");
 }

@@ -18,7 +18,10 @@ fn bytes() {
 
 fn range() {
     say::bad(b"terminal 65,536", b"Dfa(-1, 2)\nTrans(0, 65536, 1, 1),\n");
-    say::answer(b"production 65,536", b"Dfa(-1, 2)\nTrans(0, 5, 1, 65536),\n");
+    say::answer(
+        b"production 65,536",
+        b"Dfa(-1, 2)\nTrans(0, 5, 1, 65536),\n",
+    );
     say::answer(b"prod0 99,999", b"Dfa(99999, 2)\n");
     say::answer(b"k 17", b"Dfa(-1, 17)\n");
     say::answer(b"from 1,024", b"Dfa(-1, 2)\nTrans(1024, 5, 1, 1),\n");
@@ -49,7 +52,10 @@ fn order() {
 }
 
 fn ruled() {
-    say::answer(b"a row to its own state", b"Dfa(-1, 2)\nTrans(0, 5, 0, 1),\n");
+    say::answer(
+        b"a row to its own state",
+        b"Dfa(-1, 2)\nTrans(0, 5, 0, 1),\n",
+    );
     say::answer(
         b"a row that falls",
         b"Dfa(-1, 2)\nTrans(0, 4, 1, 7),\nTrans(0, 6, 2, -1),\nTrans(2, 4, 1, 7),\n",

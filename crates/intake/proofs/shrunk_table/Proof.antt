@@ -1,3 +1,4 @@
+-- `shrunk_table` meets its contract: check 1, then the lists. Assumes nothing.
 use mathlib.Core.Path.{sym, _∙_}
 use lib.ListN.{length}
 use Rattle.intake.proofs.Lengths.{passed}
@@ -5,23 +6,16 @@ use Rattle.intake.proofs.Answering.{refused-lengths, taken}
 use borrow.Author.Needs.{needs}
 use Rattle.intake.proofs.shrunk_table.Statement.{statement}
 use Rattle.intake.proofs.shrunk_table.Tie as tie
-use Rattle.intake.proofs.shrunk_table.Reads as reads
-use Rattle.intake.proofs.shrunk_table.Lts as lts
-use Rattle.intake.proofs.checks.lengths.Reads as lengths-reads
-use Rattle.intake.proofs.shrunk.Reads as shrunk-reads
 
--- src/lib.rt:49:8
 lengths-requires : tie.Need-lengths-requires
 lengths-requires c κs = search needs
 
--- src/lib.rt:50:9
 returns : tie.Need-returns
 returns c =
     let a = c .before .before .before .before .before .args in
-    refused-lengths (a .productions .now) (a .counts .now) (a .lengths .now) (a .tokens .now) (length (a .out .now)) (a .out .now)
-      (sym (c .before .lengths .ensures) ∙ c .if1 .taken)
+    refused-lengths (a .productions .now) (a .counts .now) (a .lengths .now) (a .tokens .now) (length (a .out .now))
+      (a .out .now) (sym (c .before .lengths .ensures) ∙ c .if1 .taken)
 
--- src/lib.rt:52:5
 shrunk-requires : tie.Need-shrunk-requires
 shrunk-requires c κs =
     let e = c .before in
@@ -29,17 +23,15 @@ shrunk-requires c κs =
     passed (a .productions .now) (a .counts .now) (a .lengths .now) (a .tokens .now) (length (a .out .now))
       (sym (e .before .lengths .ensures) ∙ e .if1 .left)
 
--- src/lib.rt:39:1
 same-length : tie.Need-same-length
 same-length c = search needs
 
--- src/lib.rt:39:1
 returns-2 : tie.Need-returns-2
 returns-2 c =
     let e = c .before .before .before in
     let a = e .before .before .before .before .before .args in
-    taken (a .productions .now) (a .counts .now) (a .lengths .now) (a .tokens .now) (length (a .out .now)) (a .out .now)
-      (sym (e .before .lengths .ensures) ∙ e .if1 .left) _ _ (c .before .shrunk .ensures)
+    taken (a .productions .now) (a .counts .now) (a .lengths .now) (a .tokens .now) (length (a .out .now))
+      (a .out .now) (sym (e .before .lengths .ensures) ∙ e .if1 .left) _ _ (c .before .shrunk .ensures)
 
 pub shrunk-table-spec : {M : Type 1} → statement M
 shrunk-table-spec =

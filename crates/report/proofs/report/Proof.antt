@@ -12,7 +12,9 @@ same-length : tie.Need-same-length
 same-length c = search needs
 
 returns : tie.Need-returns
-returns c = prints (c .before .before .put-refused .ensures) (too-long (c .before .before .before .before .before .before .before .args .input .now) (omega arith))
+returns c =
+    let s = c .before .before .before .before .before .before .before in
+    prints (c .before .before .put-refused .ensures) (too-long (s .args .input .now) (omega arith))
 
 slice-aggregate-with-table : tie.Need-slice-aggregate-with-table
 slice-aggregate-with-table c = search needs
@@ -27,7 +29,10 @@ same-length-2 : tie.Need-same-length-2
 same-length-2 c = search needs
 
 returns-2 : tie.Need-returns-2
-returns-2 c = prints-as (c .before .before .before .before .with-table .ensures) (by-text (c .before .before .before .before .before .before .before .before .before .before .before .args .input .now) (omega arith))
+returns-2 c =
+    let w = c .before .before .before .before in
+    let s = w .before .before .before .before .before .before .before in
+    prints-as (w .with-table .ensures) (by-text (s .args .input .now) (omega arith))
 
 pub report-spec : {M : Type 1} → statement M
 report-spec =

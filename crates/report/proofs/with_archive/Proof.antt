@@ -41,8 +41,9 @@ same-length-2 c = search needs
 
 returns : tie.Need-returns
 returns c =
-    let s = c .before .before .before .before .before .before .before .before .before .before .before .before .before in
-    rw (same (s .args .prod0) (s .fits .prod0)) at (c .before .before .before .with-intake .ensures)
+    let w = c .before .before .before in
+    let s = w .before .before .before .before .before .before .before .before .before .before in
+    rw (same (s .args .prod0) (s .fits .prod0)) at (w .with-intake .ensures)
 
 same-length-3 : tie.Need-same-length-3
 same-length-3 c = search needs

@@ -7,7 +7,15 @@ use Rattle.paper.specs.Rows.{table}
 use Rattle.rows.proofs.Rest.{length-rows}
 use Rattle.rows.proofs.Signed.{same}
 use Rattle.report.specs.Rulings.{Sized}
-use Rattle.report.proofs.Shrinking.{fitting, shrunk-refused, shrunk-sized, table-small, sized-small, intake-refused, both-shrunk}
+use Rattle.report.proofs.Shrinking.{
+  fitting,
+  shrunk-refused,
+  shrunk-sized,
+  table-small,
+  sized-small,
+  intake-refused,
+  both-shrunk,
+}
 use Rattle.report.proofs.Reported.{prints, printed-lines, printed-refusal}
 use borrow.Author.Needs.{needs}
 use Rattle.report.proofs.with_intake.Statement.{statement}
@@ -38,9 +46,13 @@ sized c =
 put-lines-requires : tie.Need-put-lines-requires
 put-lines-requires c κs =
     let t = c .before .before in
-    let s = t .before .before .before .before .before .before .before in (
+    let s = t .before .before .before .before .before .before .before in
+    let small = table-small (s .pre .0) in (
       omega arith,
-      rw (c .before .state-count .ensures) (table-small (s .pre .0)),
+      record {
+        states = omega (arith, c .before .state-count .ensures, small .states);
+        rows = omega (arith, small .rows);
+      },
       sized-small (s .pre .0) (s .pre .1),
       sized-small (s .pre .0) (sized t),
     )
@@ -63,7 +75,8 @@ returns c =
     let n = w .before .before in
     let t = n .before in
     let s = t .before .before .before .before .before .before .before in
-    let lines = both-shrunk (s .pre .1) (sized t) _ (n .state-count .ensures) (sym (length-rows (s .args .rows .now))) in
+    let rows = sym (length-rows (s .args .rows .now)) in
+    let lines = both-shrunk (s .pre .1) (sized t) _ (n .state-count .ensures) rows in
     prints (w .put-lines .ensures) (printed-lines lines)
 
 same-length-3 : tie.Need-same-length-3

@@ -17,7 +17,9 @@ enum-known-reading c = search needs
 -- the rows that text in wrote
 front : (c : tie.After-known-told) →
     let g = c .before .reading .given .0 in
-    Front (c .before .before .before .before .before .before .before .before .args .input .now) (g .0) (g .1 .0) (g .1 .1 .0) (c .before .before .before .before .text-in .last .1 .0)
+    let k = c .before .before .before .before in
+    let s = k .before .before .before .before in
+    Front (s .args .input .now) (g .0) (g .1 .0) (g .1 .1 .0) (k .text-in .last .1 .0)
 front c =
     let k = c .before .before .before .before in
     let s = k .before .before .before .before in

@@ -1,3 +1,4 @@
+-- `lengths` is check 1, test after test. Assumes nothing.
 use mathlib.Core.Path.{ap, sym, _∙_}
 use mathlib.Core.Bool.{not}
 use borrow.Author.Tests.{not-true, not-false}
@@ -5,35 +6,27 @@ use Rattle.intake.proofs.Lengths.{room-out, none-out, uneven-out, strin
 use borrow.Author.Needs.{needs}
 use Rattle.intake.proofs.checks.lengths.Statement.{statement}
 use Rattle.intake.proofs.checks.lengths.Tie as tie
-use Rattle.intake.proofs.checks.lengths.Reads as reads
-use Rattle.intake.proofs.checks.lengths.Lts as lts
-use Rattle.intake.proofs.checks.sums.Reads as sums-reads
 
--- src/checks.rt:38:9
 returns : tie.Need-returns
 returns c =
     let a = c .before .before .before .before .args in
     room-out (a .productions .now) (a .counts .now) (a .lengths .now) (a .tokens .now) (a .room) (c .if1 .taken)
 
--- src/checks.rt:41:9
 returns-2 : tie.Need-returns-2
 returns-2 c =
     let a = c .before .before .before .before .before .args in
     none-out (a .productions .now) (a .counts .now) (a .lengths .now) (a .tokens .now) (a .room)
     (c .before .if1 .left) (c .if2 .taken)
 
--- src/checks.rt:44:9
 returns-3 : tie.Need-returns-3
 returns-3 c =
     let a = c .before .before .before .before .before .before .args in
     uneven-out (a .productions .now) (a .counts .now) (a .lengths .now) (a .tokens .now) (a .room)
     (c .before .before .if1 .left) (c .before .if2 .left) (c .if3 .taken)
 
--- src/checks.rt:46:9
 sums-requires : tie.Need-sums-requires
 sums-requires c κs = search needs
 
--- src/checks.rt:47:9
 returns-4 : tie.Need-returns-4
 returns-4 c =
     let e = c .before .before in
@@ -42,11 +35,9 @@ returns-4 c =
     (e .before .before .if1 .left) (e .before .if2 .left) (e .if3 .left)
     (sym (c .before .sums .ensures) ∙ not-true (c .before .sums .result) (c .if4 .taken))
 
--- src/checks.rt:49:6
 sums-requires-2 : tie.Need-sums-requires-2
 sums-requires-2 c κs = search needs
 
--- src/checks.rt:27:1
 returns-5 : tie.Need-returns-5
 returns-5 c =
     let s = c .before in

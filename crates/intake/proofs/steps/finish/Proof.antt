@@ -1,3 +1,4 @@
+-- `finish`: what there is was refused, or is shrunk. Assumes nothing.
 use mathlib.Core.Path.{_≡_, sym}
 use Prim.Native.Nat.{_≤_}
 use native.Mathlib.Omega.{arith}
@@ -8,58 +9,47 @@ use Rattle.intake.proofs.Joined.{part-length, finish-made}
 use borrow.Author.Needs.{needs}
 use Rattle.intake.proofs.steps.finish.Statement.{statement}
 use Rattle.intake.proofs.steps.finish.Tie as tie
-use Rattle.intake.proofs.steps.finish.Reads as reads
-use Rattle.intake.proofs.steps.finish.Lts as lts
-use Rattle.shrink.proofs.shrink.Reads as shrink-reads
 
--- src/steps.rt:151:24
-enum-known-united : tie.Need-enum-known-united
-enum-known-united c = search needs
+enum-known-last : tie.Need-enum-known-last
+enum-known-last c = search needs
 
--- src/steps.rt:152:9
 enum-told : tie.Need-enum-told
 enum-told c = search needs
 
--- src/steps.rt:152:9
 returns : tie.Need-returns
 returns c = search needs
 
-few : (c : tie.After-known-told) → let u = c .before .united .given .0 in
+few : (c : tie.After-known-told) → let u = c .before .last .given .0 in
     Few (Made (u .0) (u .1 .0) (u .1 .1 .0) (u .1 .1 .1 .0))
-few c = rw (c .before .united .given .1) at (c .before .before .before .pre .0)
+few c = rw (c .before .last .given .1) at (c .before .before .before .pre .0)
 
--- src/steps.rt:154:49
 mul-shrink : tie.Need-mul-shrink
 mul-shrink c = let h = few c .0 in search needs
 
--- src/steps.rt:154:44
 slice-aggregate-shrink : tie.Need-slice-aggregate-shrink
 slice-aggregate-shrink c =
     let s = c .before .before .before .before in
-    sym (part-length (s .args .a .now) (c .before .before .united .given .0 .1 .1 .0) (few (c .before) .0) (s .pre .1))
+    sym (part-length (s .args .a .now) (c .before .before .last .given .0 .1 .1 .0) (few (c .before) .0) (s .pre .1))
 
--- src/steps.rt:154:5
 shrink-requires : tie.Need-shrink-requires
 shrink-requires c κs = search needs
 
--- src/steps.rt:147:1
 same-length : tie.Need-same-length
 same-length c = search needs
 
--- src/steps.rt:147:1
 returns-2 : tie.Need-returns-2
 returns-2 c =
     let k = c .before .before .before .before in
-    let u = k .before .united .given in
+    let u = k .before .last .given in
     let s = k .before .before .before in
-    rw (u .1) (finish-made (u .0 .0) (u .0 .1 .0) (u .0 .1 .1 .0) (u .0 .1 .1 .1 .0) (s .args .a .now) (few k .0) (s .pre .1)
-      _ _ _ (s .pre .2) (rw (back (u .0 .0) (few k .1)) at (c .before .shrink .ensures)))
+    rw (u .1) (finish-made (u .0 .0) (u .0 .1 .0) (u .0 .1 .1 .0) (u .0 .1 .1 .1 .0) (s .args .a .now) (few k .0)
+      (s .pre .1) _ _ _ (s .pre .2) (rw (back (u .0 .0) (few k .1)) at (c .before .shrink .ensures)))
 
 pub finish-spec : {M : Type 1} → statement M
 finish-spec =
     tie.close
     (tie.spec
-    enum-known-united
+    enum-known-last
     enum-told
     returns
     mul-shrink

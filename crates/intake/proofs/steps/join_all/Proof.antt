@@ -1,3 +1,4 @@
+-- `join_all`: what there is, joined with the lists that are left, stays the same. Assumes nothing.
 use mathlib.Core.Path.{_≡_, refl, ap, sym, _∙_}
 use Prim.Native.Nat.{ℕ, _-_, _≤_}
 use native.Mathlib.Omega.{arith}
@@ -14,43 +15,43 @@ use Rattle.intake.proofs.Lists.{lengths-there, tokens-there}
 use Rattle.intake.proofs.Joining.{Joining, joined-none, joined-next, joined-all}
 use Rattle.intake.proofs.steps.join_all.Statement.{statement}
 use Rattle.intake.proofs.steps.join_all.Tie as tie
-use Rattle.intake.proofs.steps.join_all.Reads as reads
-use Rattle.intake.proofs.steps.join_all.Lts as lts
-use Rattle.intake.proofs.checks.total.Reads as total-reads
-use Rattle.intake.proofs.steps.join_list.Reads as join-list-reads
 
 abbrev Inv-loop : tie.InvT-loop
-Inv-loop productions counts lengths tokens a₀ b₀ work₀ last₀ strings₀ rest₀ i₀ a b work last strings rest i =
+Inv-loop productions counts lengths tokens a₀ b₀ work₀ last₀ strings₀ rest₀ list₀ a b work last strings rest list =
     Joining productions counts lengths tokens
       (then (held last₀ a₀) (λ m. join-all m (lists-in productions counts lengths tokens)))
-      a₀ b₀ work₀ a b work last strings rest i
+      a₀ b₀ work₀ a b work last strings rest list
 
 abbrev μ-loop : tie.MeasureT-loop
-μ-loop productions counts lengths tokens a₀ b₀ work₀ last₀ strings₀ rest₀ i₀ a b work last strings rest i =
-    length productions - i
+μ-loop productions counts lengths tokens a₀ b₀ work₀ last₀ strings₀ rest₀ list₀ a b work last strings rest list =
+    length productions - list
 
 -- the next list's lengths and tokens are within the rests
 lengths-in : (c : tie.In-loop Inv-loop μ-loop) → let l = c .before in
-    getD (l .before .before .before .before .args .counts .now) (l .loop .i) 0 ≤ length (l .loop .strings .now)
+    getD (l .before .before .before .before .args .counts .now) (l .loop .list) 0 ≤ length (l .loop .strings .now)
 lengths-in c =
     let l = c .before in
     let a = l .before .before .before .before .args in
-    lengths-there (a .productions .now) (a .counts .now) (l .loop .strings .now) (l .loop .rest .now) (l .loop .i)
+    lengths-there (a .productions .now) (a .counts .now) (l .loop .strings .now) (l .loop .rest .now) (l .loop .list)
       (c .loop-test .taken) (l .loop .inv .summed)
 
 tokens-in : (c : tie.In-loop Inv-loop μ-loop) → let l = c .before in
-    sum (take (getD (l .before .before .before .before .args .counts .now) (l .loop .i) 0) (l .loop .strings .now))
+    sum (take (getD (l .before .before .before .before .args .counts .now) (l .loop .list) 0) (l .loop .strings .now))
     ≤ length (l .loop .rest .now)
 tokens-in c =
     let l = c .before in
     let a = l .before .before .before .before .args in
-    tokens-there (a .productions .now) (a .counts .now) (l .loop .strings .now) (l .loop .rest .now) (l .loop .i)
+    tokens-there (a .productions .now) (a .counts .now) (l .loop .strings .now) (l .loop .rest .now) (l .loop .list)
       (c .loop-test .taken) (l .loop .inv .summed)
 
-total-in : (c : tie.After-total Inv-loop μ-loop) → c .total .result ≤ length (c .before .before .before .before .loop .rest .now)
+total-in : (c : tie.After-total Inv-loop μ-loop) →
+    c .total .result ≤ length (c .before .before .before .before .loop .rest .now)
 total-in c = omega (arith, c .total .ensures, tokens-in (c .before .before .before))
 
--- src/steps.rt:114:5
+-- where a turn's list was measured
+measured : tie.After-join-list Inv-loop μ-loop → tie.After-total Inv-loop μ-loop
+measured c = c .before .before .before .before .before .before .before
+
 loop-holds : tie.Need-loop-holds Inv-loop μ-loop
 loop-holds c =
     let s = c .before .before .before in
@@ -58,115 +59,104 @@ loop-holds c =
     joined-none (a .productions .now) (a .counts .now) (a .lengths .now) (a .tokens .now) (a .a .now) (a .b .now)
       (a .work .now) (a .first) (s .pre .0) (s .pre .1)
 
--- src/steps.rt:115:17
 mul-c : tie.Need-mul-c Inv-loop μ-loop
 mul-c c = search needs
 
--- src/steps.rt:115:17
 shared-slice-read-c : tie.Need-shared-slice-read-c Inv-loop μ-loop
 shared-slice-read-c c =
     let l = c .before .before in
     let s = l .before .before .before .before in
     omega (arith, s .pre .1 .each, c .before .loop-test .taken)
 
--- src/steps.rt:116:31
 slice-aggregate-total : tie.Need-slice-aggregate-total Inv-loop μ-loop
-slice-aggregate-total c = sym (length-take-le _ (c .before .before .before .loop .strings .now) (lengths-in (c .before .before)))
+slice-aggregate-total c =
+    let t = c .before .before in
+    sym (length-take-le _ (t .before .loop .strings .now) (lengths-in t))
 
--- src/steps.rt:116:13
 total-requires : tie.Need-total-requires Inv-loop μ-loop
 total-requires c κs = tokens-in (c .before .before)
 
--- src/steps.rt:117:32
 mul-join-list : tie.Need-mul-join-list Inv-loop μ-loop
 mul-join-list c = search needs
 
--- src/steps.rt:117:32
 shared-slice-copy-out-join-list : tie.Need-shared-slice-copy-out-join-list Inv-loop μ-loop
 shared-slice-copy-out-join-list c = search needs
 
--- src/steps.rt:117:48
 slice-aggregate-join-list : tie.Need-slice-aggregate-join-list Inv-loop μ-loop
-slice-aggregate-join-list c = sym (length-take-le _ (c .before .before .before .before .before .before .loop .rest .now) (total-in (c .before .before)))
+slice-aggregate-join-list c =
+    let t = c .before .before in
+    sym (length-take-le _ (t .before .before .before .before .loop .rest .now) (total-in t))
 
--- src/steps.rt:117:60
 slice-aggregate-join-list-2 : tie.Need-slice-aggregate-join-list-2 Inv-loop μ-loop
-slice-aggregate-join-list-2 c = sym (length-take-le _ (c .before .before .before .before .before .before .before .loop .strings .now) (lengths-in (c .before .before .before .before .before .before)))
+slice-aggregate-join-list-2 c =
+    let t = c .before .before .before .before .before .before in
+    sym (length-take-le _ (t .before .loop .strings .now) (lengths-in t))
 
--- src/steps.rt:117:9
 join-list-requires : tie.Need-join-list-requires Inv-loop μ-loop
-join-list-requires c κs = c .before .before .before .before .before .before .before .before .before .before .loop .inv .ready
+join-list-requires c κs =
+    let t = c .before .before .before .before .before .before in
+    t .before .before .before .before .loop .inv .ready
 
--- src/steps.rt:118:19
 mul-strings : tie.Need-mul-strings Inv-loop μ-loop
 mul-strings c =
-    let h = lengths-in (c .before .before .before .before .before .before .before .before .before .before .before .before .before) in
-    let k = c .before .before .before .before .before .before .before .before .before .before .before .before .before .before .loop .inv .fewer-strings in
+    let t = measured (c .before .before .before) in
+    let h = lengths-in (t .before .before .before) in
+    let k = t .before .before .before .before .loop .inv .fewer-strings in
     search needs
 
--- src/steps.rt:118:19
 sub-strings : tie.Need-sub-strings Inv-loop μ-loop
-sub-strings c = lengths-in (c .before .before .before .before .before .before .before .before .before .before .before .before .before)
+sub-strings c = lengths-in (measured (c .before .before .before) .before .before .before)
 
--- src/steps.rt:118:19
 part-strings-start : tie.Need-part-strings-start Inv-loop μ-loop
-part-strings-start c = let h = lengths-in (c .before .before .before .before .before .before .before .before .before .before .before .before .before) in search needs
+part-strings-start c = let h = lengths-in (measured (c .before .before .before) .before .before .before) in search needs
 
--- src/steps.rt:118:19
 part-strings-end : tie.Need-part-strings-end Inv-loop μ-loop
-part-strings-end c = let h = lengths-in (c .before .before .before .before .before .before .before .before .before .before .before .before .before) in search needs
+part-strings-end c = let h = lengths-in (measured (c .before .before .before) .before .before .before) in search needs
 
--- src/steps.rt:119:16
 mul-rest : tie.Need-mul-rest Inv-loop μ-loop
 mul-rest c =
-    let h = total-in (c .before .before .before .before .before .before .before .before .before .before .before) in
-    let k = c .before .before .before .before .before .before .before .before .before .before .before .before .before .before .before .loop .inv .fewer-tokens in
+    let t = measured (c .before .before .before .before) in
+    let h = total-in t in
+    let k = t .before .before .before .before .loop .inv .fewer-tokens in
     search needs
 
--- src/steps.rt:119:16
 sub-rest : tie.Need-sub-rest Inv-loop μ-loop
-sub-rest c = total-in (c .before .before .before .before .before .before .before .before .before .before .before)
+sub-rest c = total-in (measured (c .before .before .before .before))
 
--- src/steps.rt:119:16
 part-rest-start : tie.Need-part-rest-start Inv-loop μ-loop
-part-rest-start c = let h = total-in (c .before .before .before .before .before .before .before .before .before .before .before) in search needs
+part-rest-start c = let h = total-in (measured (c .before .before .before .before)) in search needs
 
--- src/steps.rt:119:16
 part-rest-end : tie.Need-part-rest-end Inv-loop μ-loop
-part-rest-end c = let h = total-in (c .before .before .before .before .before .before .before .before .before .before .before) in search needs
+part-rest-end c = let h = total-in (measured (c .before .before .before .before)) in search needs
 
--- src/steps.rt:120:9
-add-i : tie.Need-add-i Inv-loop μ-loop
-add-i c = omega arith
+add-list : tie.Need-add-list Inv-loop μ-loop
+add-list c = omega arith
 
--- src/steps.rt:114:5
 loop-less : tie.Need-loop-less Inv-loop μ-loop
 loop-less c = omega arith
 
--- src/steps.rt:114:5
 loop-again : tie.Need-loop-again Inv-loop μ-loop
 loop-again c =
     let j = c .before .before .before .before .before in
-    let t = c .before .before .before .before .before .before .before .before .before .before .before .before in
+    let t = measured j in
     let l = t .before .before .before .before in
     let a = l .before .before .before .before .args in
-    let h = rw (back (getD (a .productions .now) (l .loop .i) (pos 0)) (c .before .before .before .before .before .before .before .before .before .before .before .join-list-arg .given)) at (j .join-list .ensures) in
-    joined-next (l .loop .inv) (t .before .before .before .loop-test .taken) _ _ _ _ (t .total .result) (t .total .ensures)
-      (j .join-list .kept .1 .1 .1 .1 .0) (j .join-list .kept .1 .1 .1 .1 .1 .0) (j .join-list .kept .1 .1 .1 .1 .1 .1 .0) h
+    let p = getD (a .productions .now) (l .loop .list) (pos 0) in
+    let same = j .join-list .kept .1 .1 .1 .1 in
+    let taken = t .before .before .before .loop-test .taken in
+    let h = rw (back p (j .before .before .before .before .before .before .join-list-arg .given)) at (j .join-list .ensures) in
+    joined-next (l .loop .inv) taken _ _ _ _ (t .total .result) (t .total .ensures)
+      (same .0) (same .1 .0) (same .1 .1 .0) h
 
--- src/steps.rt:94:1
 same-length : tie.Need-same-length Inv-loop μ-loop
 same-length c = c .before .loop .inv .same-a
 
--- src/steps.rt:94:1
 same-length-2 : tie.Need-same-length-2 Inv-loop μ-loop
 same-length-2 c = c .before .loop .inv .same-b
 
--- src/steps.rt:94:1
 same-length-3 : tie.Need-same-length-3 Inv-loop μ-loop
 same-length-3 c = c .before .loop .inv .same-work
 
--- src/steps.rt:94:1
 returns : tie.Need-returns Inv-loop μ-loop
 returns c = joined-all (c .before .loop .inv) (c .loop-test .left)
 
@@ -194,7 +184,7 @@ join-all-spec =
     sub-rest
     part-rest-start
     part-rest-end
-    add-i
+    add-list
     loop-less
     loop-again
     same-length

@@ -1,3 +1,4 @@
+-- `keep`: the first i numbers are the same. Assumes nothing.
 use mathlib.Core.Path.{_≡_, refl, ap, sym, _∙_}
 use mathlib.Core.List.{List}
 use Prim.Native.Nat.{ℕ, _+_, _-_, _≤_}
@@ -11,8 +12,6 @@ use Rattle.rows.proofs.Signed.{back}
 use Rattle.intake.proofs.Fronts.{keep-next}
 use Rattle.intake.proofs.steps.keep.Statement.{statement}
 use Rattle.intake.proofs.steps.keep.Tie as tie
-use Rattle.intake.proofs.steps.keep.Reads as reads
-use Rattle.intake.proofs.steps.keep.Lts as lts
 
 abbrev Inv-loop : tie.InvT-loop
 Inv-loop work n buf₀ i₀ buf i = (i ≤ n) × (length buf ≡ length buf₀) × (take i buf ≡ take i work)
@@ -20,35 +19,27 @@ Inv-loop work n buf₀ i₀ buf i = (i ≤ n) × (length buf ≡ length buf₀) 
 abbrev μ-loop : tie.MeasureT-loop
 μ-loop work n buf₀ i₀ buf i = n - i
 
--- src/steps.rt:21:5
 loop-holds : tie.Need-loop-holds Inv-loop μ-loop
 loop-holds c = (omega arith, refl, refl)
 
--- src/steps.rt:22:18
 mul-buf : tie.Need-mul-buf Inv-loop μ-loop
 mul-buf c = search needs
 
--- src/steps.rt:22:18
 shared-slice-copy-out-buf : tie.Need-shared-slice-copy-out-buf Inv-loop μ-loop
 shared-slice-copy-out-buf c = search needs
 
--- src/steps.rt:22:9
 mul-t9 : tie.Need-mul-t9 Inv-loop μ-loop
 mul-t9 c = search needs
 
--- src/steps.rt:22:9
 slice-set-from-buf : tie.Need-slice-set-from-buf Inv-loop μ-loop
 slice-set-from-buf c = search needs
 
--- src/steps.rt:23:9
 add-i : tie.Need-add-i Inv-loop μ-loop
 add-i c = search needs
 
--- src/steps.rt:21:5
 loop-less : tie.Need-loop-less Inv-loop μ-loop
 loop-less c = search needs
 
--- src/steps.rt:21:5
 loop-again : tie.Need-loop-again Inv-loop μ-loop
 loop-again c =
     let l = c .before .before in
@@ -61,11 +52,9 @@ loop-again c =
       ∙ keep-next (a .work .now) (l .loop .buf) i (pos 0) (l .loop .inv .2) (omega arith) (omega arith),
     )
 
--- src/steps.rt:16:1
 same-length : tie.Need-same-length Inv-loop μ-loop
 same-length c = c .before .loop .inv .1
 
--- src/steps.rt:16:1
 returns : tie.Need-returns Inv-loop μ-loop
 returns c =
     let l = c .before in

@@ -1,3 +1,4 @@
+-- `unite_two` holds what unite rules: its rows are few, and are kept. Assumes nothing.
 use mathlib.Core.Path.{_≡_, sym}
 use Prim.Native.Nat.{_*_, _≤_}
 use native.Mathlib.Omega.{arith}
@@ -14,52 +15,38 @@ use Rattle.intake.proofs.Joined.{part-length}
 use borrow.Author.Needs.{needs}
 use Rattle.intake.proofs.steps.unite_two.Statement.{statement}
 use Rattle.intake.proofs.steps.unite_two.Tie as tie
-use Rattle.intake.proofs.steps.unite_two.Reads as reads
-use Rattle.intake.proofs.steps.unite_two.Lts as lts
-use Rattle.intake.proofs.steps.keep.Reads as keep-reads
-use Rattle.unite.proofs.unite.Reads as unite-reads
 
--- src/steps.rt:65:54
 mul-unite : tie.Need-mul-unite
 mul-unite c = search needs
 
--- src/steps.rt:65:49
 slice-reshare-prefix-unite : tie.Need-slice-reshare-prefix-unite
 slice-reshare-prefix-unite c = search needs
 
--- src/steps.rt:65:49
 slice-aggregate-unite : tie.Need-slice-aggregate-unite
 slice-aggregate-unite c =
     let s = c .before in
     sym (part-length (s .args .a .now) (s .args .n) (s .pre .1) (s .pre .0 .small))
 
--- src/steps.rt:65:73
 mul-unite-2 : tie.Need-mul-unite-2
 mul-unite-2 c = search needs
 
--- src/steps.rt:65:68
 slice-aggregate-unite-2 : tie.Need-slice-aggregate-unite-2
 slice-aggregate-unite-2 c =
     let s = c .before .before in
     sym (part-length (s .args .b .now) (s .args .m) (s .pre .3) (s .pre .2))
 
--- src/steps.rt:65:9
 unite-requires : tie.Need-unite-requires
 unite-requires c κs = search needs
 
--- src/steps.rt:66:40
-enum-known-made : tie.Need-enum-known-made
-enum-known-made c = search needs
+enum-known-united : tie.Need-enum-known-united
+enum-known-united c = search needs
 
--- src/steps.rt:67:9
 enum-told : tie.Need-enum-told
 enum-told c = search needs
 
--- src/steps.rt:67:9
 same-length : tie.Need-same-length
 same-length c = search needs
 
--- src/steps.rt:67:9
 same-length-2 : tie.Need-same-length-2
 same-length-2 c = search needs
 
@@ -73,21 +60,20 @@ makes c =
     let h = rw (same (s .args .p) (s .fits .p)) at (c .unite .ensures) in
     rw (s .pre .0 .large) at (rw (same (s .args .q) (s .fits .q)) at h)
 
--- src/steps.rt:67:9
 returns : tie.Need-returns
 returns c =
-    rw (c .enum-told .given .1) (holds-refused _ _ _ _ _ (rw (c .enum-told .given .1) at (makes (c .before .before .before))))
+    let e = c .enum-told .given .1 in
+    rw e (holds-refused _ _ _ _ _ (rw e at (makes (c .before .before .before))))
 
-few : (c : tie.After-known-told) → let u = c .before .made .given .0 in
+few : (c : tie.After-known-told) → let u = c .before .united .given .0 in
     Few (Made (u .0) (u .1 .0) (u .1 .1 .0) (u .1 .1 .1 .0))
 few c =
-    made-few _ _ _ _ _ _ _ (united-small _ _ _ _ _ _ 16384) (rw (c .before .made .given .1) at (makes (c .before .before .before .before)))
+    let h = rw (c .before .united .given .1) at (makes (c .before .before .before .before)) in
+    made-few _ _ _ _ _ _ _ (united-small _ _ _ _ _ _ 16384) h
 
--- src/steps.rt:69:16
 mul-keep : tie.Need-mul-keep
 mul-keep c = let h = few (c .before) .0 in search needs
 
--- src/steps.rt:69:5
 keep-requires : tie.Need-keep-requires
 keep-requires c κs =
     let s = c .before .before .before .before .before .before .before .before .before .before in
@@ -96,20 +82,17 @@ keep-requires c κs =
     let r = s .pre .0 .small in
     (search needs, search needs)
 
--- src/steps.rt:50:1
 same-length-3 : tie.Need-same-length-3
 same-length-3 c = search needs
 
--- src/steps.rt:50:1
 same-length-4 : tie.Need-same-length-4
 same-length-4 c = search needs
 
--- src/steps.rt:50:1
 returns-2 : tie.Need-returns-2
 returns-2 c =
     let m = c .before .before .before .before in
-    holds-made _ _ _ _ _ _ _ (united-small _ _ _ _ _ _ 16384) (rw (m .before .made .given .1) at (makes (m .before .before .before .before)))
-      _ (c .before .keep .ensures)
+    let h = rw (m .before .united .given .1) at (makes (m .before .before .before .before)) in
+    holds-made _ _ _ _ _ _ _ (united-small _ _ _ _ _ _ 16384) h _ (c .before .keep .ensures)
 
 pub unite-two-spec : {M : Type 1} → statement M
 unite-two-spec =
@@ -121,7 +104,7 @@ unite-two-spec =
     mul-unite-2
     slice-aggregate-unite-2
     unite-requires
-    enum-known-made
+    enum-known-united
     enum-told
     same-length
     same-length-2

@@ -1,4 +1,4 @@
--- `report::lines::put_line` meets its contract. Three writings, each from where the one before it ends. Assumes nothing.
+-- `report::lines::put_line` meets its contract. Three writings, each from where the one before ends. Assumes nothing.
 use Prim.Native.Nat.{_+_}
 use mathlib.Core.Path.{_≡_}
 use native.Mathlib.Omega.{arith}

@@ -1,4 +1,4 @@
--- `report::lines::put_refused` meets its contract. Two writings, the second from where the first ends. Assumes nothing.
+-- `report::lines::put_refused` meets its contract. Two writings, one after the other. Assumes nothing.
 use native.Mathlib.Omega.{arith}
 use Rattle.text.proofs.Written.{puts-on, puts-as}
 use Rattle.report.proofs.Parts.{refused-parts, number-small}

@@ -1,4 +1,4 @@
--- `report::writing::put_field` meets its contract. Two writings, the second from where the first ends. Assumes nothing.
+-- `report::writing::put_field` meets its contract. Two writings, one after the other. Assumes nothing.
 use native.Mathlib.Omega.{arith}
 use borrow.Author.Needs.{needs}
 use Rattle.text.proofs.Written.{puts-on}

@@ -1,0 +1,28 @@
+// Lists put through the intake desk's call in all their orders, and its table's predictions compared with what the lists
+// define. A list's strings stand in four slots, its lengths and tokens too: string s has its tokens from s * 4 on.
+mod fixed;
+mod lay;
+mod made;
+mod plain;
+mod streams;
+mod total;
+
+use libc::STDOUT_FILENO;
+use total::{CLASHES, ORDERS, PREDICTIONS, WRONG};
+
+fn main() {
+    let mut out = [0i32; 16384];
+    let mut counts = [0usize; 4];
+    fixed::all(&mut out, &mut counts);
+    made::all(&mut out, &mut counts);
+    line(b"orders ", total::length(&counts, ORDERS));
+    line(b"predictions ", total::length(&counts, PREDICTIONS));
+    line(b"clashes ", total::length(&counts, CLASHES));
+    line(b"wrong ", total::length(&counts, WRONG));
+}
+
+fn line(label: &[u8], count: usize) {
+    io::write_all(STDOUT_FILENO, label);
+    io::print_decimal(STDOUT_FILENO, count as u64);
+    io::write_all(STDOUT_FILENO, b"\n");
+}
