@@ -16,7 +16,7 @@ use Rattle.paper.specs.declared.Refusal.{Refusal}
 use Rattle.paper.specs.declared.Making.{Making}
 use Rattle.paper.specs.declared.Making.the-variants as making
 use Rattle.paper.specs.Rows.{rows-in, table}
-use Rattle.paper.specs.Answers.{Ruling, accept, refuse, then, Made, Makes}
+use Rattle.paper.specs.Answers.{Ruling, accept, refuse, number, detail, then, Made, Makes}
 use Rattle.paper.specs.Checks.{row-slice, little-room}
 use Rattle.paper.specs.Build.{build}
 use Rattle.paper.specs.Unite.{unite}
@@ -72,11 +72,13 @@ module _ (p : ℤ) (k n s : ℕ) (a : List ℤ) (few : n ≤ 1023) (room : 4092 
       (rw (table-numbers (table p k (take (n * 4) a)))))
 
   -- the next list is refused
-  pub join-refused : (l : Lent) (f : Refusal) (b c : List ℤ) →
-      Holds (build (l .production) (l .tokens) (l .lengths) 16384) (making.Refused f) b →
-      Holds (then (held (making.Made p k n s) a) (λ m. join-lent m l)) (making.Refused f) c
+  pub join-refused : (l : Lent) (r : Making) (f : Refusal) (b c : List ℤ) → r ≡ making.Refused f →
+      Holds (build (l .production) (l .tokens) (l .lengths) 16384) r b →
+      Holds (then (held (making.Made p k n s) a) (λ m. join-lent m l)) r c
   unfolding join-lent build-lent
-  join-refused l f b c h = record { is = rw (← h .is); few = tt }
+  join-refused l r f b c e h =
+      rw e (let g : refuse (number f) (detail f) ≡ build (l .production) (l .tokens) (l .lengths) 16384 =
+      ap (λ (x : Making). held x b) (sym e) ∙ h .is in record { is = rw (← g); few = tt })
 
   -- it is built, and then united
   pub join-built : (l : Lent) (q : ℤ) (j m u : ℕ) (b : List ℤ) → 4092 ≤ length b →

@@ -131,6 +131,7 @@ refused (accept m) f old new h =
     let z : _≡_ {A = ℕ} 0 1 = cc in absurd (omega arith)
 refused (refuse n d) f old new h = let e = h .says in cc
 
-pub holds-refused : (g : Ruling Made) (f : Refusal) (old new buf : List ℤ) → Makes g (making.Refused f) old new →
-    Holds g (making.Refused f) buf
-holds-refused g f old new buf h = record { is = refused g f old new h; few = tt }
+pub holds-refused : (g : Ruling Made) (r : Making) (f : Refusal) (old new buf : List ℤ) → r ≡ making.Refused f →
+    Makes g r old new → Holds g r buf
+holds-refused g r f old new buf e h =
+    rw e (record { is = refused g f old new (rw e at h); few = tt })

@@ -1,5 +1,5 @@
-// Lists put through the intake desk's call in all their orders, and its table's predictions compared with what the lists
-// define. A list's strings stand in four slots, its lengths and tokens too: string s has its tokens from s * 4 on.
+// Lists put through the intake desk's call in all their orders, and its table's predictions compared with what the
+// lists define. List i's strings stand in the slots from i * 4 on, and the tokens of the string in slot s from s * 4 on.
 mod fixed;
 mod lay;
 mod made;

@@ -49,7 +49,7 @@ total-in : (c : tie.After-total Inv-loop μ-loop) →
 total-in c = omega (arith, c .total .ensures, tokens-in (c .before .before .before))
 
 -- where a turn's list was measured
-measured : tie.After-join-list Inv-loop μ-loop → tie.After-total Inv-loop μ-loop
+abbrev measured : tie.After-join-list Inv-loop μ-loop → tie.After-total Inv-loop μ-loop
 measured c = c .before .before .before .before .before .before .before
 
 loop-holds : tie.Need-loop-holds Inv-loop μ-loop
@@ -144,7 +144,8 @@ loop-again c =
     let p = getD (a .productions .now) (l .loop .list) (pos 0) in
     let same = j .join-list .kept .1 .1 .1 .1 in
     let taken = t .before .before .before .loop-test .taken in
-    let h = rw (back p (j .before .before .before .before .before .before .join-list-arg .given)) at (j .join-list .ensures) in
+    let x = j .before .before .before .before .before .before .join-list-arg .given in
+    let h = rw (back p x) at (j .join-list .ensures) in
     joined-next (l .loop .inv) taken _ _ _ _ (t .total .result) (t .total .ensures)
       (same .0) (same .1 .0) (same .1 .1 .0) h
 

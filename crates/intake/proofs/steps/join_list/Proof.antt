@@ -49,8 +49,8 @@ returns-2 c =
     let a = s .args in
     let l : Lent = record { production = a .production; lengths = a .lengths .now; tokens = a .tokens .now } in
     let h = rw (same (a .production) (s .fits .production)) at (b .build-list .ensures) in
-    rw (u .1, c .enum-told2 .given .1) (join-refused (u .0 .0) (u .0 .1 .0) (u .0 .1 .1 .0) (u .0 .1 .1 .1 .0)
-      (a .a .now) (few k .0) (s .pre .first .small) l _ _ _ (rw (c .enum-told2 .given .1) at h))
+    rw (u .1) (join-refused (u .0 .0) (u .0 .1 .0) (u .0 .1 .1 .0) (u .0 .1 .1 .1 .0)
+      (a .a .now) (few k .0) (s .pre .first .small) l _ _ _ _ (c .enum-told2 .given .1) h)
 
 unite-two-requires : tie.Need-unite-two-requires
 unite-two-requires c κs =

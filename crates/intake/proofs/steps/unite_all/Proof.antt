@@ -25,14 +25,14 @@ tokens-in s =
     let a = s .args in
     tokens-there (a .productions .now) (a .counts .now) (a .lengths .now) (a .tokens .now) 0 (s .pre .2) (s .pre .3)
 
-start : tie.After-total → tie.Start
+abbrev start : tie.After-total → tie.Start
 start c = c .before .before .before .before .before .before
 
 total-in : (c : tie.After-total) → c .total .result ≤ length (start c .args .tokens .now)
 total-in c = omega (arith, c .total .ensures, tokens-in (start c))
 
 -- where the first list was measured
-measured : tie.After-build-list → tie.After-total
+abbrev measured : tie.After-build-list → tie.After-total
 measured c = c .before .before .before .before .before .before
 
 shared-slice-read-c : tie.Need-shared-slice-read-c
@@ -140,7 +140,8 @@ returns c =
     let s = start t in
     let a = s .args in
     let p = getD (a .productions .now) 0 (pos 0) in
-    let h = rw (back p (b .before .before .before .before .before .build-list-arg .given)) at (b .build-list .ensures) in
+    let x = b .before .before .before .before .before .build-list-arg .given in
+    let h = rw (back p x) at (b .build-list .ensures) in
     all-joined (a .productions .now) (a .counts .now) (a .lengths .now) (a .tokens .now) (s .pre .2) (s .pre .3)
       (t .total .result) (t .total .ensures) _ _ h _ _ (j .join-all .ensures)
 

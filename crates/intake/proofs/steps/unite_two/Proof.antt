@@ -61,9 +61,7 @@ makes c =
     rw (s .pre .0 .large) at (rw (same (s .args .q) (s .fits .q)) at h)
 
 returns : tie.Need-returns
-returns c =
-    let e = c .enum-told .given .1 in
-    rw e (holds-refused _ _ _ _ _ (rw e at (makes (c .before .before .before))))
+returns c = holds-refused _ _ _ _ _ _ (c .enum-told .given .1) (makes (c .before .before .before))
 
 few : (c : tie.After-known-told) → let u = c .before .united .given .0 in
     Few (Made (u .0) (u .1 .0) (u .1 .1 .0) (u .1 .1 .1 .0))

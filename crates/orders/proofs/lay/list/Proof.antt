@@ -7,10 +7,12 @@ use Rattle.orders.proofs.lay.list.Statement.{statement}
 use Rattle.orders.proofs.lay.list.Tie as tie
 
 abbrev Inv-loop : tie.InvT-loop
-Inv-loop i m lens toks lengths₀ tokens₀ laid₀ j₀ lengths tokens laid j = (length lengths ≡ length lengths₀) × (length tokens ≡ length tokens₀)
+Inv-loop i m lens toks lengths₀ tokens₀ laid₀ j₀ lengths tokens laid j =
+    (length lengths ≡ length lengths₀) × (length tokens ≡ length tokens₀)
 
 abbrev μ-loop : tie.MeasureT-loop
-μ-loop i m lens toks lengths₀ tokens₀ laid₀ j₀ lengths tokens laid j = m - j
+μ-loop i m lens toks lengths₀ tokens₀ laid₀ j₀ lengths tokens laid j =
+    m - j
 
 loop-holds : tie.Need-loop-holds Inv-loop μ-loop
 loop-holds c = search needs

@@ -7,10 +7,15 @@ use Rattle.orders.proofs.lay.lists.Statement.{statement}
 use Rattle.orders.proofs.lay.lists.Tie as tie
 
 abbrev Inv-loop : tie.InvT-loop
-Inv-loop n order prods many lens toks productions₀ counts₀ lengths₀ tokens₀ laid₀ p₀ productions counts lengths tokens laid p = (length productions ≡ length productions₀) × (length counts ≡ length counts₀) × (length lengths ≡ length lengths₀) × (length tokens ≡ length tokens₀)
+Inv-loop n order prods many lens toks productions₀ counts₀ lengths₀ tokens₀ laid₀ p₀
+    productions counts lengths tokens laid p =
+    (length productions ≡ length productions₀) × (length counts ≡ length counts₀) 
+    × (length lengths ≡ length lengths₀) × (length tokens ≡ length tokens₀)
 
 abbrev μ-loop : tie.MeasureT-loop
-μ-loop n order prods many lens toks productions₀ counts₀ lengths₀ tokens₀ laid₀ p₀ productions counts lengths tokens laid p = n - p
+μ-loop n order prods many lens toks productions₀ counts₀ lengths₀ tokens₀ laid₀ p₀
+    productions counts lengths tokens laid p =
+    n - p
 
 loop-holds : tie.Need-loop-holds Inv-loop μ-loop
 loop-holds c = search needs

@@ -7,10 +7,12 @@ use Rattle.orders.proofs.streams.ask.Statement.{statement}
 use Rattle.orders.proofs.streams.ask.Tie as tie
 
 abbrev Inv-loop : tie.InvT-loop
-Inv-loop n prods many lens toks out₀ counts₀ order₀ out counts order = (length out ≡ length out₀) × (length counts ≡ length counts₀)
+Inv-loop n prods many lens toks out₀ counts₀ order₀ out counts order =
+    (length out ≡ length out₀) × (length counts ≡ length counts₀)
 
 abbrev μ-loop : tie.MeasureT-loop
-μ-loop n prods many lens toks out₀ counts₀ order₀ out counts order = 256 - order
+μ-loop n prods many lens toks out₀ counts₀ order₀ out counts order =
+    256 - order
 
 loop-holds : tie.Need-loop-holds Inv-loop μ-loop
 loop-holds c = search needs
