@@ -1,7 +1,7 @@
 -- Demand 3 for the call: its contract says that the answer and the output are what `table-of` rules, and of lists
 -- within document 01's bounds with at most 1,024 distinct beginnings that ruling is what demand 3 asks.
 -- Assumes nothing.
-use mathlib.Core.Path.{_≡_, refl, ap, sym, _∙_}
+use mathlib.Core.Path.{_≡_, refl}
 use mathlib.Core.List.{List, [], _∷_, List·Memᴰ}
 use Prim.Native.Nat.{ℕ, _*_, _≤_}
 use native.Mathlib.Omega.{arith}

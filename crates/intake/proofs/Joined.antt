@@ -1,6 +1,6 @@
 -- A table read back from an array goes into unite and shrink as the made table does; one more list joined to it.
 -- Assumes nothing.
-use mathlib.Core.Path.{_≡_, refl, ap, sym, _∙_}
+use mathlib.Core.Path.{_≡_, ap, sym, _∙_}
 use mathlib.Core.Bool.{false}
 use mathlib.Core.List.{List, [], _∷_}
 use Prim.Native.Nat.{ℕ, _*_, _%_, _≤_}
@@ -16,7 +16,7 @@ use Rattle.paper.specs.declared.Refusal.{Refusal}
 use Rattle.paper.specs.declared.Making.{Making}
 use Rattle.paper.specs.declared.Making.the-variants as making
 use Rattle.paper.specs.Rows.{rows-in, table}
-use Rattle.paper.specs.Answers.{Ruling, accept, refuse, number, detail, then, Made, Makes}
+use Rattle.paper.specs.Answers.{refuse, number, detail, then, Made, Makes}
 use Rattle.paper.specs.Checks.{row-slice, little-room}
 use Rattle.paper.specs.Build.{build}
 use Rattle.paper.specs.Unite.{unite}
@@ -59,8 +59,10 @@ module _ (p : ℤ) (k n s : ℕ) (a : List ℤ) (few : n ≤ 1023) (room : 4092 
   unfolding unite-made unite little-room
   unite-as q l m u b few′ room′ =
       rw (part-slice a n few room, part-slice b m few′ room′)
-      (rw (slice-numbers (rows-in (take (n * 4) a)) (part-rows a n few room),
-      slice-numbers (rows-in (take (m * 4) b)) (part-rows b m few′ room′))
+      (rw (
+        slice-numbers (rows-in (take (n * 4) a)) (part-rows a n few room),
+        slice-numbers (rows-in (take (m * 4) b)) (part-rows b m few′ room′),
+      )
       (rw (table-numbers (table p k (take (n * 4) a)), table-numbers (table q l (take (m * 4) b)))))
 
   pub shrink-as : (space : ℕ) → 16384 ≤ space →

@@ -1,6 +1,6 @@
 -- The lists joined one after the other: what holds before each turn. Assumes nothing.
 use mathlib.Core.Path.{_≡_, refl, ap, sym, _∙_}
-use mathlib.Core.List.{List, [], _∷_}
+use mathlib.Core.List.{List, []}
 use Prim.Native.Nat.{ℕ, _+_, _-_, _<_, _≤_}
 use native.Mathlib.Omega.{arith}
 use lib.ListN.{length, getD, take, drop, length-drop, drop-of-length-le}
@@ -9,7 +9,7 @@ use Rattle.paper.specs.declared.Making.{Making}
 use Rattle.paper.specs.Answers.{Ruling, accept, refuse, then, Made}
 use Rattle.paper.specs.Build.{sum, build}
 use Rattle.intake.specs.Call.{Lent, lists-in, build-lent, join-lent, join-all, unite-all}
-use Rattle.intake.specs.Held.{held, Holds, Ready, Room, Summed}
+use Rattle.intake.specs.Held.{held, Holds, Ready, Summed}
 use Rattle.intake.proofs.Lists.{lent, next-list, next-summed, join-then, left-is}
 
 -- What there is, joined with the lists that are left, is what is to be made of all lists.
@@ -37,10 +37,13 @@ module _ {ps : List ℤ} {cs ns ts : List ℕ} {whole : Ruling Made} {a₀ b₀ 
       n ≡ sum (take (getD cs i 0) strings) →
       length a′ ≡ length a → length b′ ≡ length b → length work′ ≡ length work →
       Holds (then (held last a) (λ m. join-lent m (record {
-        production = getD ps i (pos 0); lengths = take (getD cs i 0) strings; tokens = take n rest }))) last′ a′ →
+        production = getD ps i (pos 0);
+        lengths = take (getD cs i 0) strings;
+        tokens = take n rest;
+      }))) last′ a′ →
       Joining ps cs ns ts whole a₀ b₀ work₀ a′ b′ work′ last′
-        (take (length strings - getD cs i 0) (drop (getD cs i 0) strings)) (take (length rest - n) (drop n rest))
-        (i + 1)
+      (take (length strings - getD cs i 0) (drop (getD cs i 0) strings)) (take (length rest - n) (drop n rest))
+      (i + 1)
   joined-next h a′ b′ work′ last′ n e la lb lw g =
       let c = getD cs i 0 in
       let l : Lent = lent (getD ps i (pos 0)) c strings rest in
@@ -100,8 +103,8 @@ module _ (ps : List ℤ) (cs ns ts : List ℕ) (h : 0 < length ps) (summed : Sum
   pub all-joined : (first : Making) (a : List ℤ) →
       Holds (build (getD ps 0 (pos 0)) (take n ts) (take (getD cs 0 0) ns) 16384) first a →
       (r : Making) (a′ : List ℤ) → Holds (then (held first a) (λ m. join-all m (lists-in
-        (take (length ps - 1) (drop 1 ps)) (take (length cs - 1) (drop 1 cs))
-        (take (length ns - getD cs 0 0) (drop (getD cs 0 0) ns)) (take (length ts - n) (drop n ts))))) r a′ →
+      (take (length ps - 1) (drop 1 ps)) (take (length cs - 1) (drop 1 cs))
+      (take (length ns - getD cs 0 0) (drop (getD cs 0 0) ns)) (take (length ts - n) (drop n ts))))) r a′ →
       Holds (unite-all (lists-in ps cs ns ts)) r a′
   unfolding unite-all build-lent
   all-joined first a b r a′ g =

@@ -1,12 +1,12 @@
 -- Of lists that are lent as the call takes them, the call makes what demand 3's chain of calls makes. Assumes nothing.
-use mathlib.Core.Path.{_≡_, refl, ap, ap₂, sym, _∙_}
+use mathlib.Core.Path.{_≡_, refl, ap, sym, _∙_}
 use mathlib.Core.Bool.{false}
 use mathlib.Core.List.{List, [], _∷_, _++_, map}
-use Prim.Native.Nat.{ℕ, zero, suc, _+_, _≤_}
+use Prim.Native.Nat.{ℕ, _+_, _≤_}
 use native.Mathlib.Omega.{arith}
-use lib.ListN.{length, take, drop, length-append, length-map}
+use lib.ListN.{length, length-append, length-map}
 use lib.Seq.{take-at, drop-at}
-use lib.IntN.{ℤ, pos}
+use lib.IntN.{pos}
 use borrow.Author.Tests.{le-ltb, eq-eqb, ne-eqb}
 use Rattle.laws.proofs.Cut.{sum-joined}
 use Rattle.paper.specs.Answers.{Ruling, accept, refuse, then, Made}
@@ -17,7 +17,14 @@ use Rattle.paper.specs.Cases.{joined}
 use Rattle.trees.specs.Chain.{build-list, unite-made, unite-rest, chain}
 use Rattle.promises.specs.Demand.{shrink-made, calls}
 use Rattle.intake.specs.Call.{
-    Lent, lists-in, build-lent, join-lent, join-all, unite-all, lists-lengths, table-of
+  Lent,
+  lists-in,
+  build-lent,
+  join-lent,
+  join-all,
+  unite-all,
+  lists-lengths,
+  table-of,
 }
 use Rattle.intake.specs.Lends.{productions-of, counts-of, lengths-of, tokens-of, call-of}
 
@@ -33,14 +40,23 @@ sizes σs = map (λ σ. length σ) σs
 counts-sum : (ls : List Opening) → sum (counts-of ls) ≡ length (lengths-of ls)
 unfolding sum counts-of lengths-of
 counts-sum [] = refl
-counts-sum (l ∷ ls) = omega (arith, counts-sum ls, length-append (sizes (l .strings)) (lengths-of ls),
-    length-map (l .strings) (λ σ. length σ))
+counts-sum (l ∷ ls) = omega (
+  arith,
+  counts-sum ls,
+  length-append (sizes (l .strings)) (lengths-of ls),
+  length-map (l .strings) (λ σ. length σ),
+)
 
 lengths-sum : (ls : List Opening) → sum (lengths-of ls) ≡ length (tokens-of ls)
 unfolding sum lengths-of tokens-of
 lengths-sum [] = refl
-lengths-sum (l ∷ ls) = omega (arith, lengths-sum ls, sum-append (sizes (l .strings)) (lengths-of ls),
-    length-append (joined (l .strings)) (tokens-of ls), sum-joined (l .strings))
+lengths-sum (l ∷ ls) = omega (
+  arith,
+  lengths-sum ls,
+  sum-append (sizes (l .strings)) (lengths-of ls),
+  length-append (joined (l .strings)) (tokens-of ls),
+  sum-joined (l .strings),
+)
 
 as-many : (ls : List Opening) → length (productions-of ls) ≡ length (counts-of ls)
 unfolding productions-of counts-of
@@ -55,8 +71,13 @@ lent-lengths : (l : Opening) (ls : List Opening) (room : ℕ) → 16384 ≤ room
 unfolding lists-lengths little-room
 lent-lengths l ls room h =
     let all : List Opening = l ∷ ls in
-    rw (le-ltb room 16384 h, ne-eqb _ 0 (some-list l ls), eq-eqb _ _ (as-many all), eq-eqb _ _ (counts-sum all),
-    eq-eqb _ _ (lengths-sum all))
+    rw (
+      le-ltb room 16384 h,
+      ne-eqb _ 0 (some-list l ls),
+      eq-eqb _ _ (as-many all),
+      eq-eqb _ _ (counts-sum all),
+      eq-eqb _ _ (lengths-sum all),
+    )
 
 -- ---- the lists
 abbrev as-lent : Opening → Lent
@@ -71,9 +92,12 @@ lists-lent (l ∷ ls) =
     let counted : length (sizes (l .strings)) ≡ n = length-map (l .strings) (λ σ. length σ) in
     let front = take-at (sizes (l .strings)) (lengths-of ls) n counted in
     let summed : length (joined (l .strings)) ≡ sum (sizes (l .strings)) = sym (sum-joined (l .strings)) in
-    rw (front, drop-at (sizes (l .strings)) (lengths-of ls) n counted,
-    take-at (joined (l .strings)) (tokens-of ls) (sum (sizes (l .strings))) summed,
-    drop-at (joined (l .strings)) (tokens-of ls) (sum (sizes (l .strings))) summed)
+    rw (
+      front,
+      drop-at (sizes (l .strings)) (lengths-of ls) n counted,
+      take-at (joined (l .strings)) (tokens-of ls) (sum (sizes (l .strings))) summed,
+      drop-at (joined (l .strings)) (tokens-of ls) (sum (sizes (l .strings))) summed,
+    )
     (ap (λ (x : List Lent). as-lent l ∷ x) (lists-lent ls))
 
 -- ---- the steps

@@ -1,18 +1,17 @@
 -- The lists that are left: the next one, and what follows it. Assumes nothing.
-use mathlib.Core.Path.{_≡_, refl, ap, ap₂, sym, _∙_}
-use mathlib.Core.List.{List, [], _∷_, _++_}
+use mathlib.Core.Path.{_≡_, refl, ap₂, _∙_}
+use mathlib.Core.List.{List, [], _∷_}
 use Prim.Native.Nat.{ℕ, zero, suc, _+_, _-_, _<_, _≤_}
 use native.Mathlib.Omega.{arith}
 use native.Mathlib.Numerals.{add-one}
-use lib.ListN.{length, getD, take, drop, length-drop, drop-of-length-le}
+use lib.ListN.{length, getD, take, drop, length-drop}
 use lib.Seq.{drop-cons, take-all}
 use lib.IntN.{ℤ, pos}
 use Rattle.build.proofs.Totals.{sum-next}
-use Rattle.paper.specs.declared.Making.{Making}
 use Rattle.paper.specs.Answers.{Ruling, accept, refuse, then, Made}
 use Rattle.paper.specs.Build.{sum}
-use Rattle.intake.specs.Call.{Lent, lists-in, build-lent, join-lent, join-all, unite-all}
-use Rattle.intake.specs.Held.{held, Holds, Ready, Summed}
+use Rattle.intake.specs.Call.{Lent, lists-in, join-lent, join-all}
+use Rattle.intake.specs.Held.{Summed}
 
 sum-split : (c : ℕ) (ns : List ℕ) → sum (take c ns) + sum (drop c ns) ≡ sum ns
 unfolding sum
@@ -50,8 +49,14 @@ module _ (ps : List ℤ) (cs ns ts : List ℕ) (i : ℕ) (h : i < length ps)
       let c = getD cs i 0 in
       let n = sum (take c ns) in
       record {
-        each = omega (arith, summed .each, length-drop i ps, length-drop i cs, length-drop (i + 1) ps,
-            length-drop (i + 1) cs);
+        each = omega (
+          arith,
+          summed .each,
+          length-drop i ps,
+          length-drop i cs,
+          length-drop (i + 1) ps,
+          length-drop (i + 1) cs,
+        );
         strings = omega (arith, summed .strings, sum-next cs i counted, length-drop c ns);
         tokens = omega (arith, summed .tokens, sum-split c ns, length-drop n ts);
       }

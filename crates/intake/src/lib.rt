@@ -1,10 +1,10 @@
 // The intake desk's one call: from string lists to a shrunk table.
-use paper::{Making, Refusal};
+use paper::Making;
+use paper::Refusal;
 
-pub mod checks;
-pub mod steps;
+mod checks;
+mod steps;
 
-ghost use mathlib.Core.Path.{_≡_};
 ghost use lib.ListN.{length};
 ghost use Rattle.paper.specs.Answers.{then, Makes};
 ghost use Rattle.promises.specs.Demand.{shrink-made};
@@ -28,14 +28,22 @@ fn shrunk(
     let mut a = [0i32; 4096];
     let mut b = [0i32; 4096];
     let mut work = [0i32; 16384];
-    let united = steps::unite_all(productions, counts, lengths, tokens, &mut a, &mut b, &mut work);
+    let united = steps::unite_all(
+        productions,
+        counts,
+        lengths,
+        tokens,
+        &mut a,
+        &mut b,
+        &mut work,
+    );
     steps::finish(united, &a, out)
 }
 
 // The lists built, united one after the other and shrunk, all in intake mode. List i has the production
 // productions[i] and counts[i] strings; their lengths follow one another in lengths, their tokens in tokens.
-// Demand 3 of this call is `intake-demand3` in proofs/Demand.antt, and that the order of the lists changes no answer
-// is `intake-any-order`.
+// Demand 3 of this call is `intake-answers` of proofs/Demand.antt, by way of `intake-demand3`; that the order of the
+// lists changes no answer is `intake-any-order`.
 pub fn shrunk_table(
     productions: &[i32],
     counts: &[usize],

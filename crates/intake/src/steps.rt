@@ -1,9 +1,9 @@
 // A list built, a table united to it, the last one shrunk: each by its public call, in lent arrays.
 use crate::checks;
-use paper::{Making, Mode};
-
+use paper::Making;
+use paper::Mode;
 ghost use mathlib.Core.Path.{_≡_};
-ghost use Prim.Native.Nat.{_+_, _*_, _<_, _≤_};
+ghost use Prim.Native.Nat.{_*_, _<_, _≤_};
 ghost use lib.ListN.{length, take};
 ghost use Rattle.paper.specs.declared.Mode.the-variants.{Intake};
 ghost use Rattle.paper.specs.Answers.{then, Makes};
@@ -38,7 +38,13 @@ fn build_list(
         (now (buf .exit)) ⌝ }
 {
     let made = build::build(production, tokens, lengths, work);
-    let Making::Made { prod0: _, k: _, rows, states: _ } = made else {
+    let Making::Made {
+        prod0: _,
+        k: _,
+        rows,
+        states: _,
+    } = made
+    else {
         return made;
     };
     keep(work, rows * 4, buf);
@@ -62,7 +68,13 @@ fn unite_two(
         r (now (a .exit)) ⌝ }
 {
     let united = unite::unite(Mode::Intake, p, k, &a[..n * 4], q, l, &b[..m * 4], work);
-    let Making::Made { prod0: _, k: _, rows, states: _ } = united else {
+    let Making::Made {
+        prod0: _,
+        k: _,
+        rows,
+        states: _,
+    } = united
+    else {
         return united;
     };
     keep(work, rows * 4, a);
@@ -81,14 +93,29 @@ fn join_list(
 ) -> Making
     requires { ⌜ Ready last (now a) (now b) (now work) ⌝ }
     ensures { λ r. ⌜ Holds (then (held last (now (a .entry))) (λ m. join-lent m (record {
-        production = production; lengths = now (lengths .entry); tokens = now (tokens .entry) })))
+      production = production;
+      lengths = now (lengths .entry);
+      tokens = now (tokens .entry);
+    })))
         r (now (a .exit)) ⌝ }
 {
-    let Making::Made { prod0: p, k, rows: n, states: _ } = last else {
+    let Making::Made {
+        prod0: p,
+        k,
+        rows: n,
+        states: _,
+    } = last
+    else {
         return last;
     };
     let next = build_list(production, tokens, lengths, b, work);
-    let Making::Made { prod0: q, k: l, rows: m, states: _ } = next else {
+    let Making::Made {
+        prod0: q,
+        k: l,
+        rows: m,
+        states: _,
+    } = next
+    else {
         return next;
     };
     unite_two(p, k, n, q, l, m, a, b, work)
@@ -118,7 +145,15 @@ fn join_all(
     while list < productions.len() {
         let c = counts[list];
         let n = checks::total(&strings[..c], rest);
-        last = join_list(last, productions[list], &rest[..n], &strings[..c], a, b, work);
+        last = join_list(
+            last,
+            productions[list],
+            &rest[..n],
+            &strings[..c],
+            a,
+            b,
+            work,
+        );
         strings = &strings[c..];
         rest = &rest[n..];
         list += 1;
@@ -144,7 +179,16 @@ pub fn unite_all(
     let c = counts[0];
     let n = checks::total(&lengths[..c], tokens);
     let first = build_list(productions[0], &tokens[..n], &lengths[..c], a, work);
-    join_all(first, &productions[1..], &counts[1..], &lengths[c..], &tokens[n..], a, b, work)
+    join_all(
+        first,
+        &productions[1..],
+        &counts[1..],
+        &lengths[c..],
+        &tokens[n..],
+        a,
+        b,
+        work,
+    )
 }
 
 // The united table shrunk into the output.
@@ -152,7 +196,13 @@ pub fn finish(last: Making, a: &[i32], out: &mut [i32]) -> Making
     requires { ⌜ Few last × (4092 ≤ length (now a)) × (16384 ≤ length (now out)) ⌝ }
     ensures { λ r. ⌜ Makes (then (held last (now (a .entry))) shrink-made) r (now (out .entry)) (now (out .exit)) ⌝ }
 {
-    let Making::Made { prod0, k, rows, states: _ } = last else {
+    let Making::Made {
+        prod0,
+        k,
+        rows,
+        states: _,
+    } = last
+    else {
         return last;
     };
     shrink::shrink(Mode::Intake, prod0, k, &a[..rows * 4], out)

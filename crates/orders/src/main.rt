@@ -1,5 +1,5 @@
 // Lists put through the intake desk's call in all their orders, and its table's predictions compared with what the
-// lists define. List i's strings stand in the slots from i * 4 on, and the tokens of the string in slot s from s * 4 on.
+// lists define. List i's strings stand in the slots from i * 4 on, and the tokens of slot s from s * 4 on.
 mod fixed;
 mod lay;
 mod made;
@@ -8,7 +8,10 @@ mod streams;
 mod total;
 
 use libc::STDOUT_FILENO;
-use total::{CLASHES, ORDERS, PREDICTIONS, WRONG};
+use total::CLASHES;
+use total::ORDERS;
+use total::PREDICTIONS;
+use total::WRONG;
 
 fn main() {
     let mut out = [0i32; 16384];

@@ -3,10 +3,16 @@ use crate::lay;
 use crate::plain;
 use crate::plain::Definition;
 use crate::total;
-use crate::total::{CLASHES, ORDERS, PREDICTIONS, WRONG};
+use crate::total::CLASHES;
+use crate::total::ORDERS;
+use crate::total::PREDICTIONS;
+use crate::total::WRONG;
 use cases::answer;
 use cases::slice;
-use paper::{Making, Mode, Prediction, Refusal};
+use paper::Making;
+use paper::Mode;
+use paper::Prediction;
+use paper::Refusal;
 
 pub fn ask(
     n: usize,
@@ -42,7 +48,16 @@ fn one(
     let mut ls = [0usize; 16];
     let mut ts = [0u16; 64];
     let laid = lay::lists(
-        n, order, prods, many, lens, toks, &mut ps, &mut cs, &mut ls, &mut ts,
+        n,
+        order,
+        prods,
+        many,
+        lens,
+        toks,
+        &mut ps,
+        &mut cs,
+        &mut ls,
+        &mut ts,
     );
     let made = intake::shrunk_table(
         slice::front_numbers(&ps, n),

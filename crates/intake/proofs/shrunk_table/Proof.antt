@@ -14,14 +14,14 @@ returns : tie.Need-returns
 returns c =
     let a = c .before .before .before .before .before .args in
     refused-lengths (a .productions .now) (a .counts .now) (a .lengths .now) (a .tokens .now) (length (a .out .now))
-      (a .out .now) (sym (c .before .lengths .ensures) ∙ c .if1 .taken)
+    (a .out .now) (sym (c .before .lengths .ensures) ∙ c .if1 .taken)
 
 shrunk-requires : tie.Need-shrunk-requires
 shrunk-requires c κs =
     let e = c .before in
     let a = e .before .before .before .before .before .args in
     passed (a .productions .now) (a .counts .now) (a .lengths .now) (a .tokens .now) (length (a .out .now))
-      (sym (e .before .lengths .ensures) ∙ e .if1 .left)
+    (sym (e .before .lengths .ensures) ∙ e .if1 .left)
 
 same-length : tie.Need-same-length
 same-length c = search needs
@@ -31,7 +31,7 @@ returns-2 c =
     let e = c .before .before .before in
     let a = e .before .before .before .before .before .args in
     taken (a .productions .now) (a .counts .now) (a .lengths .now) (a .tokens .now) (length (a .out .now))
-      (a .out .now) (sym (e .before .lengths .ensures) ∙ e .if1 .left) _ _ (c .before .shrunk .ensures)
+    (a .out .now) (sym (e .before .lengths .ensures) ∙ e .if1 .left) _ _ (c .before .shrunk .ensures)
 
 pub shrunk-table-spec : {M : Type 1} → statement M
 shrunk-table-spec =

@@ -1,8 +1,8 @@
 -- `total` sums the lengths; no sum passes the number of tokens. Assumes nothing.
-use mathlib.Core.Path.{_≡_, sym, _∙_}
+use mathlib.Core.Path.{_≡_}
 use Prim.Native.Nat.{_+_, _-_, _≤_}
 use native.Mathlib.Omega.{arith}
-use lib.ListN.{length, getD, drop}
+use lib.ListN.{length, drop}
 use borrow.Author.Needs.{needs}
 use Rattle.paper.specs.Build.{sum}
 use Rattle.build.proofs.Totals.{sum-next, sum-end}

@@ -24,7 +24,7 @@ same-length c = search needs
 -- what build made
 makes : (c : tie.After-build) → let s = c .before .before .before .before in
     Makes (build (s .args .production) (s .args .tokens .now) (s .args .lengths .now) 16384)
-      (c .build .result) (s .args .work .now) (c .build .last .1 .1 .1 .0)
+    (c .build .result) (s .args .work .now) (c .build .last .1 .1 .1 .0)
 makes c =
     let s = c .before .before .before .before in
     rw (s .pre .large) at (rw (same (s .args .production) (s .fits .production)) at (c .build .ensures))

@@ -1,7 +1,5 @@
 -- `finish`: what there is was refused, or is shrunk. Assumes nothing.
-use mathlib.Core.Path.{_≡_, sym}
-use Prim.Native.Nat.{_≤_}
-use native.Mathlib.Omega.{arith}
+use mathlib.Core.Path.{sym}
 use Rattle.rows.proofs.Signed.{back}
 use Rattle.paper.specs.declared.Making.the-variants.{Made}
 use Rattle.intake.specs.Held.{Few}
@@ -43,7 +41,7 @@ returns-2 c =
     let u = k .before .last .given in
     let s = k .before .before .before in
     rw (u .1) (finish-made (u .0 .0) (u .0 .1 .0) (u .0 .1 .1 .0) (u .0 .1 .1 .1 .0) (s .args .a .now) (few k .0)
-      (s .pre .1) _ _ _ (s .pre .2) (rw (back (u .0 .0) (few k .1)) at (c .before .shrink .ensures)))
+    (s .pre .1) _ _ _ (s .pre .2) (rw (back (u .0 .0) (few k .1)) at (c .before .shrink .ensures)))
 
 pub finish-spec : {M : Type 1} → statement M
 finish-spec =

@@ -1,10 +1,10 @@
 -- `join_all`: what there is, joined with the lists that are left, stays the same. Assumes nothing.
-use mathlib.Core.Path.{_≡_, refl, ap, sym, _∙_}
-use Prim.Native.Nat.{ℕ, _-_, _≤_}
+use mathlib.Core.Path.{sym}
+use Prim.Native.Nat.{_-_, _≤_}
 use native.Mathlib.Omega.{arith}
 use lib.ListN.{length, getD, take}
 use lib.Seq.{length-take-le}
-use lib.IntN.{ℤ, pos}
+use lib.IntN.{pos}
 use borrow.Author.Needs.{needs}
 use Rattle.rows.proofs.Signed.{back}
 use Rattle.paper.specs.Answers.{then}
@@ -19,8 +19,8 @@ use Rattle.intake.proofs.steps.join_all.Tie as tie
 abbrev Inv-loop : tie.InvT-loop
 Inv-loop productions counts lengths tokens a₀ b₀ work₀ last₀ strings₀ rest₀ list₀ a b work last strings rest list =
     Joining productions counts lengths tokens
-      (then (held last₀ a₀) (λ m. join-all m (lists-in productions counts lengths tokens)))
-      a₀ b₀ work₀ a b work last strings rest list
+    (then (held last₀ a₀) (λ m. join-all m (lists-in productions counts lengths tokens)))
+    a₀ b₀ work₀ a b work last strings rest list
 
 abbrev μ-loop : tie.MeasureT-loop
 μ-loop productions counts lengths tokens a₀ b₀ work₀ last₀ strings₀ rest₀ list₀ a b work last strings rest list =
@@ -33,7 +33,7 @@ lengths-in c =
     let l = c .before in
     let a = l .before .before .before .before .args in
     lengths-there (a .productions .now) (a .counts .now) (l .loop .strings .now) (l .loop .rest .now) (l .loop .list)
-      (c .loop-test .taken) (l .loop .inv .summed)
+    (c .loop-test .taken) (l .loop .inv .summed)
 
 tokens-in : (c : tie.In-loop Inv-loop μ-loop) → let l = c .before in
     sum (take (getD (l .before .before .before .before .args .counts .now) (l .loop .list) 0) (l .loop .strings .now))
@@ -42,7 +42,7 @@ tokens-in c =
     let l = c .before in
     let a = l .before .before .before .before .args in
     tokens-there (a .productions .now) (a .counts .now) (l .loop .strings .now) (l .loop .rest .now) (l .loop .list)
-      (c .loop-test .taken) (l .loop .inv .summed)
+    (c .loop-test .taken) (l .loop .inv .summed)
 
 total-in : (c : tie.After-total Inv-loop μ-loop) →
     c .total .result ≤ length (c .before .before .before .before .loop .rest .now)
@@ -57,7 +57,7 @@ loop-holds c =
     let s = c .before .before .before in
     let a = s .args in
     joined-none (a .productions .now) (a .counts .now) (a .lengths .now) (a .tokens .now) (a .a .now) (a .b .now)
-      (a .work .now) (a .first) (s .pre .0) (s .pre .1)
+    (a .work .now) (a .first) (s .pre .0) (s .pre .1)
 
 mul-c : tie.Need-mul-c Inv-loop μ-loop
 mul-c c = search needs
@@ -147,7 +147,7 @@ loop-again c =
     let x = j .before .before .before .before .before .before .join-list-arg .given in
     let h = rw (back p x) at (j .join-list .ensures) in
     joined-next (l .loop .inv) taken _ _ _ _ (t .total .result) (t .total .ensures)
-      (same .0) (same .1 .0) (same .1 .1 .0) h
+    (same .0) (same .1 .0) (same .1 .1 .0) h
 
 same-length : tie.Need-same-length Inv-loop μ-loop
 same-length c = c .before .loop .inv .same-a

@@ -1,5 +1,4 @@
 -- `join_list`: what there is was refused, the list is refused, or it is built and united. Assumes nothing.
-use mathlib.Core.Path.{_≡_, sym}
 use Prim.Native.Nat.{_≤_}
 use lib.ListN.{length}
 use native.Mathlib.Omega.{arith}
@@ -50,7 +49,7 @@ returns-2 c =
     let l : Lent = record { production = a .production; lengths = a .lengths .now; tokens = a .tokens .now } in
     let h = rw (same (a .production) (s .fits .production)) at (b .build-list .ensures) in
     rw (u .1) (join-refused (u .0 .0) (u .0 .1 .0) (u .0 .1 .1 .0) (u .0 .1 .1 .1 .0)
-      (a .a .now) (few k .0) (s .pre .first .small) l _ _ _ _ (c .enum-told2 .given .1) h)
+    (a .a .now) (few k .0) (s .pre .first .small) l _ _ _ _ (c .enum-told2 .given .1) h)
 
 unite-two-requires : tie.Need-unite-two-requires
 unite-two-requires c κs =
@@ -88,8 +87,8 @@ returns-3 c =
     let rows = b .build-list .last .1 .1 .1 .0 in
     let room : 4092 ≤ length rows = omega (arith, s .pre .second, b .build-list .kept .1 .1 .1 .0) in
     rw (u .1) (join-built (u .0 .0) (u .0 .1 .0) (u .0 .1 .1 .0) (u .0 .1 .1 .1 .0) (a .a .now) (few k .0)
-      (s .pre .first .small) l (v .0 .0) (v .0 .1 .0) (v .0 .1 .1 .0) (v .0 .1 .1 .1 .0) rows room g _ _
-      (rw (back (u .0 .0) (few k .1)) at (rw (back (v .0 .0) (g .few .1)) at (r .unite-two .ensures))))
+    (s .pre .first .small) l (v .0 .0) (v .0 .1 .0) (v .0 .1 .1 .0) (v .0 .1 .1 .1 .0) rows room g _ _
+    (rw (back (u .0 .0) (few k .1)) at (rw (back (v .0 .0) (g .few .1)) at (r .unite-two .ensures))))
 
 pub join-list-spec : {M : Type 1} → statement M
 join-list-spec =

@@ -1,12 +1,9 @@
 -- `keep`: the first i numbers are the same. Assumes nothing.
-use mathlib.Core.Path.{_≡_, refl, ap, sym, _∙_}
-use mathlib.Core.List.{List}
-use Prim.Native.Nat.{ℕ, _+_, _-_, _≤_}
+use mathlib.Core.Path.{_≡_, refl, ap, _∙_}
+use Prim.Native.Nat.{_+_, _-_, _≤_}
 use native.Mathlib.Omega.{arith}
 use lib.ListN.{length, getD, set, take, length-set}
 use lib.IntN.{ℤ, pos}
-use mir.Syntax.{w32}
-use mir.Val.{toZ, ofZ}
 use borrow.Author.Needs.{needs}
 use Rattle.rows.proofs.Signed.{back}
 use Rattle.intake.proofs.Fronts.{keep-next}
@@ -49,7 +46,7 @@ loop-again c =
       omega arith,
       simp length-set (l .loop .inv .1),
       ap (λ (z : ℤ). take (i + 1) (set (l .loop .buf) i z)) (back x (c .buf .given))
-      ∙ keep-next (a .work .now) (l .loop .buf) i (pos 0) (l .loop .inv .2) (omega arith) (omega arith),
+          ∙ keep-next (a .work .now) (l .loop .buf) i (pos 0) (l .loop .inv .2) (omega arith) (omega arith),
     )
 
 same-length : tie.Need-same-length Inv-loop μ-loop

@@ -1,10 +1,10 @@
 -- `unite_all`: the first list is built, the others are joined to it. Assumes nothing.
-use mathlib.Core.Path.{_≡_, refl, ap, sym, _∙_}
-use Prim.Native.Nat.{ℕ, _-_, _≤_}
+use mathlib.Core.Path.{sym, _∙_}
+use Prim.Native.Nat.{_≤_}
 use native.Mathlib.Omega.{arith}
 use lib.ListN.{length, getD, take}
 use lib.Seq.{length-take-le}
-use lib.IntN.{ℤ, pos}
+use lib.IntN.{pos}
 use Rattle.rows.proofs.Signed.{back}
 use Rattle.paper.specs.Build.{sum}
 use Rattle.intake.proofs.Lists.{lengths-there, tokens-there}
@@ -120,7 +120,7 @@ join-all-requires c κs =
         second = s .pre .1;
       },
       others-summed (a .productions .now) (a .counts .now) (a .lengths .now) (a .tokens .now)
-      (s .pre .2) (s .pre .3) (t .total .result) (t .total .ensures),
+          (s .pre .2) (s .pre .3) (t .total .result) (t .total .ensures),
     )
 
 same-length : tie.Need-same-length
@@ -143,7 +143,7 @@ returns c =
     let x = b .before .before .before .before .before .build-list-arg .given in
     let h = rw (back p x) at (b .build-list .ensures) in
     all-joined (a .productions .now) (a .counts .now) (a .lengths .now) (a .tokens .now) (s .pre .2) (s .pre .3)
-      (t .total .result) (t .total .ensures) _ _ h _ _ (j .join-all .ensures)
+    (t .total .result) (t .total .ensures) _ _ h _ _ (j .join-all .ensures)
 
 pub unite-all-spec : {M : Type 1} → statement M
 unite-all-spec =

@@ -1,10 +1,8 @@
 -- `unite_two` holds what unite rules: its rows are few, and are kept. Assumes nothing.
-use mathlib.Core.Path.{_≡_, sym}
-use Prim.Native.Nat.{_*_, _≤_}
-use native.Mathlib.Omega.{arith}
+use mathlib.Core.Path.{sym}
+use Prim.Native.Nat.{_*_}
 use lib.ListN.{take}
 use Rattle.paper.specs.declared.Mode.the-variants.{Intake}
-use Rattle.paper.specs.declared.Making.{Making}
 use Rattle.paper.specs.declared.Making.the-variants.{Made}
 use Rattle.paper.specs.Answers.{Makes}
 use Rattle.paper.specs.Unite.{unite}
@@ -53,8 +51,8 @@ same-length-2 c = search needs
 -- what unite made
 makes : (c : tie.After-unite) → let s = c .before .before .before .before in
     Makes (unite Intake (s .args .p) (s .args .k) (take (s .args .n * 4) (s .args .a .now)) (s .args .q) (s .args .l)
-      (take (s .args .m * 4) (s .args .b .now)) 16384)
-      (c .unite .result) (s .args .work .now) (c .unite .last .1 .1 .1 .1 .1 .1 .1 .0)
+    (take (s .args .m * 4) (s .args .b .now)) 16384)
+    (c .unite .result) (s .args .work .now) (c .unite .last .1 .1 .1 .1 .1 .1 .1 .0)
 makes c =
     let s = c .before .before .before .before in
     let h = rw (same (s .args .p) (s .fits .p)) at (c .unite .ensures) in

@@ -9,7 +9,7 @@ use Rattle.orders.proofs.lay.lists.Tie as tie
 abbrev Inv-loop : tie.InvT-loop
 Inv-loop n order prods many lens toks productions₀ counts₀ lengths₀ tokens₀ laid₀ p₀
     productions counts lengths tokens laid p =
-    (length productions ≡ length productions₀) × (length counts ≡ length counts₀) 
+    (length productions ≡ length productions₀) × (length counts ≡ length counts₀)
     × (length lengths ≡ length lengths₀) × (length tokens ≡ length tokens₀)
 
 abbrev μ-loop : tie.MeasureT-loop
