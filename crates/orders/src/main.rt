@@ -1,5 +1,6 @@
 // Lists put through the intake desk's call in all their orders, and its table's predictions compared with what the
 // lists define. List i's strings stand in the slots from i * 4 on, and the tokens of slot s from s * 4 on.
+// There are 60 + 660 orders, and 64 predictions for each order that does not clash.
 mod fixed;
 mod lay;
 mod made;
