@@ -97,18 +97,22 @@ abbrev pub made : Making → Ruling Heading
 made (making.Made p k n s) = accept (record { prod0 = p; k = k; rows = n; states = s })
 made (making.Refused r) = refuse (number r) (detail r)
 
+-- Of predict.
 abbrev pub predicted : Prediction → Ruling Chosen
 predicted (prediction.Predicted q n) = accept (record { production = q .0; entered = n })
 predicted (prediction.Refused r) = refuse (number r) (detail r)
 
+-- Of explain's first call.
 abbrev pub explained : Explanation → Ruling ℕ
 explained (explanation.Matched n) = accept n
 explained (explanation.Refused r) = refuse (number r) (detail r)
 
+-- Of text in.
 abbrev pub heard : Reading → Ruling Title
 heard (reading.Read p k n) = accept (record { prod0 = p; k = k; rows = n })
 heard (reading.Refused r) = refuse (number r) (detail r)
 
+-- Of text out.
 abbrev pub wrote : Writing → Ruling ℕ
 wrote (writing.Wrote n) = accept n
 wrote (writing.Refused r) = refuse (number r) (detail r)

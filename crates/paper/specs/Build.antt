@@ -53,6 +53,7 @@ add-string q t σ =
     let w = walk-in (record { rows = t .rows; state = 0 }) σ in
     give (w .state) (some q) (record { prod0 = t .prod0; k = max (t .k) (length σ); rows = w .rows })
 
+-- Every string, in the order that the caller gives.
 unfoldable pub add-strings : ℕ → Table → List (List ℕ) → Table
 add-strings q t [] = t
 add-strings q t (σ ∷ σs) = add-strings q (add-string q t σ) σs
@@ -67,6 +68,7 @@ unfoldable pub strings : List ℕ → List ℕ → List (List ℕ)
 strings [] tokens = []
 strings (n ∷ ns) tokens = take n tokens ∷ strings ns (drop n tokens)
 
+-- The sum of the lengths, over plain numbers: it does not wrap.
 unfoldable pub sum : List ℕ → ℕ
 sum [] = 0
 sum (n ∷ ns) = n + sum ns

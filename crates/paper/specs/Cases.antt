@@ -22,6 +22,7 @@ use Rattle.paper.specs.Lists.{Opening, defined}
 abbrev pub Four : Type 0
 Four = ℕ × ℕ × ℕ × Option ℕ
 
+-- The row of four numbers.
 abbrev pub row : Four → Row
 row r = record { from = r .0; terminal = r .1; to = r .2; production = r .3 }
 
@@ -82,9 +83,11 @@ said (explains a ts g s) = explanation g (accept s)
 said (defines ls ts g) = definition g
 said (prints i o) = print (bytes o)
 
+-- A table as a ruling says it: prod0, k, rows, states.
 abbrev made : Option ℕ → ℕ → List Four → ℕ → Ruling Made
 made p k rs n = accept (record { table = record { prod0 = p; k = k; rows = map row rs }; states = n })
 
+-- A prediction: production, rows entered.
 abbrev chosen : ℕ → ℕ → Ruling Chosen
 chosen q n = accept (record { production = q; entered = n })
 
@@ -98,30 +101,38 @@ B = list 2 ((5 ∷ 6 ∷ []) ∷ [])
 abbrev T : Asked
 T = united Archive B A
 
+-- The same two as lists.
 abbrev A-and-B : List Opening
 A-and-B =
     record { production = 1; strings = (5 ∷ []) ∷ (7 ∷ []) ∷ [] }
     ∷ record { production = 2; strings = (5 ∷ 6 ∷ []) ∷ [] }
     ∷ []
 
+-- The empty string under a production.
 abbrev empty-string : ℕ → Asked
 empty-string q = list q ([] ∷ [])
 
+-- String 5 under a production.
 abbrev string-5 : ℕ → Asked
 string-5 q = list q ((5 ∷ []) ∷ [])
 
+-- prod0 1, (0,3,1,1) (0,5,2,2).
 abbrev two-leaves : Asked
 two-leaves = given (some 1) 1 ((0, 3, 1, some 1) ∷ (0, 5, 2, some 2) ∷ [])
 
+-- prod0 -1, (0,4,1,7) (0,6,2,-1) (2,4,3,7).
 abbrev two-sevens : Asked
 two-sevens = given none 2 ((0, 4, 1, some 7) ∷ (0, 6, 2, none) ∷ (2, 4, 3, some 7) ∷ [])
 
+-- prod0 3, k 2, (0,5,1,-1) (1,6,2,4).
 abbrev late : Asked
 late = given (some 3) 2 ((0, 5, 1, none) ∷ (1, 6, 2, some 4) ∷ [])
 
+-- A string of length 16.
 abbrev long : List ℕ
 long = 1 ∷ 2 ∷ 3 ∷ 4 ∷ 5 ∷ 6 ∷ 7 ∷ 8 ∷ 9 ∷ 10 ∷ 11 ∷ 12 ∷ 13 ∷ 14 ∷ 15 ∷ 16 ∷ []
 
+-- The table of starred cases, in the order of the document, with some that are not starred.
 unfoldable pub starred : List Case
 starred =
     -- Empty list under 4: prod0 4, k 0, no rows, 1 state.

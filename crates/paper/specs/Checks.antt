@@ -14,10 +14,12 @@ abbrev pub first : {A : Type 0} → List (Bool × ℕ) → Ruling A → Ruling A
 first [] r = r
 first (c ∷ cs) r = cond (c .0) (refuse (c .1) []) (first cs r)
 
+-- All of a list.
 unfoldable pub every : {A : Type 0} → (A → Bool) → List A → Bool
 every f [] = true
 every f (x ∷ xs) = f x && every f xs
 
+-- At least one of a list.
 unfoldable pub any : {A : Type 0} → (A → Bool) → List A → Bool
 any f [] = false
 any f (x ∷ xs) = f x || any f xs
@@ -44,15 +46,17 @@ row-fits r =
 unfoldable pub range : Table → Bool
 range t = not ((production-fits (t .prod0) && leb (t .k) 16) && every row-fits (t .rows))
 
--- 3 ORDER: rows not strictly rising by (from, terminal).
+-- 3 ORDER: rows not strictly rising by (from, terminal). A row before another:
 unfoldable pub before : Row → Row → Bool
 before a b = ltb (a .from) (b .from) || (eqb (a .from) (b .from) && ltb (a .terminal) (b .terminal))
 
+-- Each row stands before the next;
 unfoldable pub rising : List Row → Bool
 rising [] = true
 rising (a ∷ []) = true
 rising (a ∷ b ∷ rs) = before a b && rising (b ∷ rs)
 
+-- 3 is given where they do not.
 unfoldable pub order : Table → Bool
 order t = not (rising (t .rows))
 
@@ -64,25 +68,28 @@ shape t = any (λ r. leb (r .to) (r .from)) (t .rows)
 unfoldable pub loose : Table → Bool
 loose t = any (λ r. not (eqb (r .from) 0) && not (any (λ x. eqb (x .to) (r .from)) (t .rows))) (t .rows)
 
--- 6 SPLIT: one to-state with two productions.
+-- 6 SPLIT: one to-state with two productions. Equal productions:
 unfoldable pub same-production : Option ℕ → Option ℕ → Bool
 same-production none none = true
 same-production none (some q) = false
 same-production (some p) none = false
 same-production (some p) (some q) = eqb p q
 
+-- Two rows into one state, with two productions.
 unfoldable pub split : Table → Bool
 split t = any (λ r. any (λ x. eqb (x .to) (r .to) && not (same-production (x .production) (r .production))) (t .rows)) (t .rows)
 
--- 7 TREE: ruled, but the to-numbers are not 1 to the row count, each once.
+-- 7 TREE: ruled, but the to-numbers are not 1 to the row count, each once. How many rows lead into n:
 unfoldable pub rows-into : List Row → ℕ → ℕ
 rows-into [] n = 0
 rows-into (r ∷ rs) n = cond (eqb (r .to) n) (suc (rows-into rs n)) (rows-into rs n)
 
+-- Each number from 1 to n is the to of one row;
 unfoldable pub each-once : List Row → ℕ → Bool
 each-once rs zero = true
 each-once rs (suc n) = eqb (rows-into rs (suc n)) 1 && each-once rs n
 
+-- 7 is given where that fails up to the row count.
 unfoldable pub no-tree : Table → Bool
 no-tree t = not (each-once (t .rows) (length (t .rows)))
 

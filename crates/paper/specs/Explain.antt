@@ -55,6 +55,7 @@ unfoldable pub stretch-of : List ℤ → Ruling Stop → Stretch
 stretch-of ns (accept w) = left-rows ns (rows-in ns) w
 stretch-of ns (refuse n d) = at-end ns
 
+-- The second call: the stretch for any numbers.
 unfoldable pub stretch : ℤ → ℕ → List ℤ → List ℕ → Stretch
 stretch p k ns tokens = stretch-of ns (explain p k ns tokens)
 

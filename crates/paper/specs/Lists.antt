@@ -19,6 +19,7 @@ begins [] σ = true
 begins (a ∷ p) [] = false
 begins (a ∷ p) (b ∷ σ) = eqb a b && begins p σ
 
+-- p begins one of the strings.
 unfoldable pub begins-one : List ℕ → List (List ℕ) → Bool
 begins-one p [] = false
 begins-one p (σ ∷ σs) = begins p σ || begins-one p σs
@@ -28,13 +29,14 @@ unfoldable pub begins-some : List Opening → List ℕ → Bool
 begins-some [] p = false
 begins-some (l ∷ ls) p = begins-one p (l .strings) || begins-some ls p
 
--- p is one of the strings.
+-- Two strings are the same.
 unfoldable pub same-string : List ℕ → List ℕ → Bool
 same-string [] [] = true
 same-string [] (b ∷ σ) = false
 same-string (a ∷ p) [] = false
 same-string (a ∷ p) (b ∷ σ) = eqb a b && same-string p σ
 
+-- p is among the strings.
 unfoldable pub among : List ℕ → List (List ℕ) → Bool
 among p [] = false
 among p (σ ∷ σs) = same-string p σ || among p σs
@@ -59,10 +61,12 @@ unfoldable pub longest-string : List (List ℕ) → ℕ
 longest-string [] = 0
 longest-string (σ ∷ σs) = max (length σ) (longest-string σs)
 
+-- Over all lists.
 unfoldable pub longest : List Opening → ℕ
 longest [] = 0
 longest (l ∷ ls) = max (longest-string (l .strings)) (longest ls)
 
+-- 11 if there is none.
 unfoldable pub or-none : Option ℕ → Ruling ℕ
 or-none none = refuse 11 []
 or-none (some q) = accept q
@@ -79,6 +83,7 @@ unfoldable pub beginnings : List ℕ → List (List ℕ)
 beginnings [] = [] ∷ []
 beginnings (t ∷ σ) = [] ∷ map (λ p. t ∷ p) (beginnings σ)
 
+-- The beginnings of each string.
 unfoldable pub string-beginnings : List (List ℕ) → List (List ℕ)
 string-beginnings [] = []
 string-beginnings (σ ∷ σs) = beginnings σ ++ string-beginnings σs
@@ -88,6 +93,7 @@ unfoldable pub all-beginnings : List Opening → List (List ℕ)
 all-beginnings [] = [] ∷ []
 all-beginnings (l ∷ ls) = string-beginnings (l .strings) ++ all-beginnings ls
 
+-- Each once.
 unfoldable pub distinct : List (List ℕ) → List (List ℕ)
 distinct [] = []
 distinct (p ∷ ps) = cond (among p ps) (distinct ps) (p ∷ distinct ps)

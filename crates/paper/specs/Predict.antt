@@ -18,6 +18,7 @@ pub record Walk : Type 0 where
   pub entered : ℕ
   pub last : Option ℕ
 
+-- The newer one where there is one.
 unfoldable pub or-else : Option ℕ → Option ℕ → Option ℕ
 or-else none y = y
 or-else (some x) y = some x
@@ -36,6 +37,7 @@ unfoldable pub walk : List Row → List ℕ → Walk → Walk
 walk rs [] w = w
 walk rs (t ∷ ts) w = walk rs ts (step rs t w)
 
+-- The walk before the first token.
 unfoldable pub start : Walk
 start = record { state = 0; entered = 0; last = none }
 

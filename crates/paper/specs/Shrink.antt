@@ -38,6 +38,7 @@ nodes t =
 unfoldable pub redirect : (ℕ → ℕ) → List (ℕ × ℕ) → List (ℕ × ℕ)
 redirect f rs = map (λ r. (r .0, f (r .1))) rs
 
+-- The same for a state with its rows.
 unfoldable pub lead : (ℕ → ℕ) → Node → Node
 lead f n = record { state = n .state; production = n .production; rows = redirect f (n .rows) }
 
@@ -77,6 +78,7 @@ merge-all (suc n) ns = elim (twins ns) [ none ↦ ns | some ab ↦ merge-all n (
 
 -- ---- archive first: accepting states of one production become one
 
+-- The state accepts the production q.
 unfoldable pub accepts : ℕ → Node → Bool
 accepts q n = same-production (n .production) (some q)
 
@@ -99,6 +101,7 @@ node-production (n ∷ ns) s = cond (eqb (n .state) s) (n .production) (node-pro
 unfoldable pub becomes : List Node → ℕ → ℕ
 becomes all s = elim (node-production all s) [ none ↦ s | some q ↦ lowest q all ]
 
+-- One state for each accepting production; the others stay, their rows redirected.
 unfoldable pub gather : List Node → List Node → List Node
 gather all [] = []
 gather all (n ∷ ns) = elim (n .production) [

@@ -37,5 +37,6 @@ unfoldable pub printed : Ruling (List ℕ) → List ℕ
 printed (accept bs) = bs
 printed (refuse n d) = bytes "refused " ++ (decimal (pos n) ++ (10 ∷ []))
 
+-- What tabrep prints for an input.
 unfoldable pub tabrep : List ℕ → List ℕ
 tabrep input = printed (report input)

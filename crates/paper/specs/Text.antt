@@ -32,6 +32,7 @@ unfoldable pub digits : ℕ → ℕ → List ℕ
 digits zero n = []
 digits (suc more) n = cond (ltb n 10) ((48 + n) ∷ []) (digits more (n / 10) ++ ((48 + n % 10) ∷ []))
 
+-- A number in a line; -1 is the only one below 0.
 unfoldable pub decimal : ℤ → List ℕ
 decimal (pos n) = digits 5 n
 decimal (negsuc n) = bytes "-1"
@@ -71,6 +72,7 @@ pub record Line : Type 0 where
   pub bytes : List ℕ
   pub ended : Bool
 
+-- A byte at the front of the first line; a last line that no LF ends is not ended.
 unfoldable pub longer : ℕ → List Line → List Line
 longer b [] = record { bytes = b ∷ []; ended = false } ∷ []
 longer b (l ∷ ls) = record { bytes = b ∷ l .bytes; ended = l .ended } ∷ ls
@@ -80,6 +82,7 @@ unfoldable pub lines : List ℕ → List Line
 lines [] = []
 lines (b ∷ bs) = cond (eqb b 10) (record { bytes = []; ended = true } ∷ lines bs) (longer b (lines bs))
 
+-- 0 to 9.
 unfoldable pub is-digit : ℕ → Bool
 is-digit b = leb 48 b && leb b 57
 

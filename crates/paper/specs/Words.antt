@@ -5,6 +5,7 @@ use Prim.Native.Char.{code}
 use mathlib.Core.List as list
 use mathlib.Core.List.{List}
 
+-- One byte for each letter; words here are ASCII.
 unfoldable pub bytes : String → List ℕ
 bytes [] = list.[]
 bytes (c ∷ s) = list._∷_ (code c) (bytes s)

@@ -6,8 +6,8 @@ use mathlib.Core.Path.{_≡_, sym}
 use Prim.Native.Nat.{_-_}
 use lib.ListN.{length}
 use borrow.Author.Needs.{needs}
-use Rattle.exports.proofs.lookahead_windows.Statement.{statement}
-use Rattle.exports.proofs.lookahead_windows.Tie as tie
+use Rattle.measured.proofs.measured_windows.Statement.{statement}
+use Rattle.measured.proofs.measured_windows.Tie as tie
 
 abbrev Inv-loop : tie.InvT-loop
 Inv-loop mode prod0 k rows tokens answers₀ mode' rest₀ i₀ answers rest i = length answers ≡ length answers₀
@@ -71,8 +71,8 @@ same-length-2 c = search needs
 returns-2 : tie.Need-returns-2 Inv-loop μ-loop
 returns-2 c = search needs
 
-pub lookahead-windows-spec : {M : Type 1} → statement M
-lookahead-windows-spec =
+pub measured-windows-spec : {M : Type 1} → statement M
+measured-windows-spec =
     tie.close
     (tie.spec
     Inv-loop
