@@ -4,10 +4,24 @@ use rows::verdict::Verdict;
 
 mod answers;
 
-ghost use Rattle.predict.specs.Seen.{Sound};
+ghost use mathlib.Core.Path.{_≡_};
+ghost use lib.ListN.{length};
+ghost use Rattle.paper.specs.Rows.{table};
+ghost use Rattle.paper.specs.Build.{build};
+ghost use Rattle.paper.specs.Unite.{unite};
+ghost use Rattle.paper.specs.Shrink.{shrink};
+ghost use Rattle.paper.specs.Predict.{predict};
+ghost use Rattle.paper.specs.Explain.{matched-count, stretch};
+ghost use Rattle.paper.specs.Text.{text-in, text-out};
+ghost use Rattle.predict.specs.Seen.{Sound, checked};
+ghost use Rattle.intake.specs.Call.{table-of};
+ghost use Rattle.exports.specs.Handed.{mode-of, table-checked, of-chosen, of-count, of-stretch, returned};
+ghost use Rattle.exports.specs.Handed.{Hands, Handed-table, Handed-read, Handed-text};
 
 // Mode 0 is archive; any other number is intake.
-fn mode_of(mode: u32) -> Mode {
+fn mode_of(mode: u32) -> Mode
+    ensures { λ r. ⌜ r ≡ mode-of mode ⌝ }
+{
     if mode == 0 {
         Mode::Archive
     } else {
@@ -23,7 +37,10 @@ pub extern "C" fn lookahead_build(
     lengths: &[usize],
     out: &mut [i32],
     answer: &mut [u64; 4],
-) -> usize {
+) -> usize
+    ensures { λ r. ⌜ Handed-table (build production (now (tokens .entry)) (now (lengths .entry))
+        (length (now (out .entry)))) (now (out .entry)) (now (out .exit)) r (now (answer .exit)) ⌝ }
+{
     answers::made(build::build(production, tokens, lengths, out), answer)
 }
 
@@ -39,7 +56,10 @@ pub extern "C" fn lookahead_unite(
     b: &[i32],
     out: &mut [i32],
     answer: &mut [u64; 4],
-) -> usize {
+) -> usize
+    ensures { λ r. ⌜ Handed-table (unite (mode-of mode) prod0a ka (now (a .entry)) prod0b kb (now (b .entry))
+        (length (now (out .entry)))) (now (out .entry)) (now (out .exit)) r (now (answer .exit)) ⌝ }
+{
     let mode = mode_of(mode);
     answers::made(
         unite::unite(mode, prod0a, ka, a, prod0b, kb, b, out),
@@ -56,7 +76,10 @@ pub extern "C" fn lookahead_shrink(
     rows: &[i32],
     out: &mut [i32],
     answer: &mut [u64; 4],
-) -> usize {
+) -> usize
+    ensures { λ r. ⌜ Handed-table (shrink (mode-of mode) prod0 k (now (rows .entry)) (length (now (out .entry))))
+        (now (out .entry)) (now (out .exit)) r (now (answer .exit)) ⌝ }
+{
     let mode = mode_of(mode);
     answers::made(shrink::shrink(mode, prod0, k, rows, out), answer)
 }
@@ -70,7 +93,10 @@ pub extern "C" fn lookahead_intake(
     tokens: &[u16],
     out: &mut [i32],
     answer: &mut [u64; 4],
-) -> usize {
+) -> usize
+    ensures { λ r. ⌜ Handed-table (table-of (now (productions .entry)) (now (counts .entry)) (now (lengths .entry))
+        (now (tokens .entry)) (length (now (out .entry)))) (now (out .entry)) (now (out .exit)) r (now (answer .exit)) ⌝ }
+{
     answers::made(
         intake::shrunk_table(productions, counts, lengths, tokens, out),
         answer,
@@ -79,7 +105,9 @@ pub extern "C" fn lookahead_intake(
 
 // The checks of predict and explain on the table alone: 1, 2, 3.
 #[no_mangle]
-pub extern "C" fn lookahead_check(prod0: i32, k: usize, rows: &[i32]) -> usize {
+pub extern "C" fn lookahead_check(prod0: i32, k: usize, rows: &[i32]) -> usize
+    ensures { λ r. ⌜ r ≡ returned (table-checked prod0 k (now (rows .entry))) ⌝ }
+{
     if rows::checks::row_slice(rows) {
         return 1;
     }
@@ -100,7 +128,10 @@ pub extern "C" fn lookahead_predict(
     stream: usize,
     tokens: &[u16],
     answer: &mut [u64; 4],
-) -> usize {
+) -> usize
+    ensures { λ r. ⌜ Hands (predict (mode-of mode) prod0 k (now (rows .entry)) stream (now (tokens .entry)))
+        of-chosen r (now (answer .exit)) ⌝ }
+{
     let mode = mode_of(mode);
     answers::predicted(
         predict::predict(mode, prod0, k, rows, stream, tokens),
@@ -120,6 +151,8 @@ pub extern "C" fn lookahead_predict_checked(
     answer: &mut [u64; 4],
 ) -> usize
     requires { ⌜ Sound prod0 k (now rows) ⌝ }
+    ensures { λ r. ⌜ Hands (checked (mode-of mode) (table prod0 k (now (rows .entry))) stream (now (tokens .entry)))
+        of-chosen r (now (answer .exit)) ⌝ }
 {
     let mode = mode_of(mode);
     answers::predicted(
@@ -136,7 +169,9 @@ pub extern "C" fn lookahead_explain(
     rows: &[i32],
     tokens: &[u16],
     answer: &mut [u64; 4],
-) -> usize {
+) -> usize
+    ensures { λ r. ⌜ Hands (matched-count prod0 k (now (rows .entry)) (now (tokens .entry))) of-count r (now (answer .exit)) ⌝ }
+{
     answers::explained(explain::matched(prod0, k, rows, tokens), answer)
 }
 
@@ -148,14 +183,19 @@ pub extern "C" fn lookahead_stretch(
     rows: &[i32],
     tokens: &[u16],
     answer: &mut [u64; 4],
-) {
+)
+    ensures { λ _. ⌜ now (answer .exit) ≡ of-stretch (stretch prod0 k (now (rows .entry)) (now (tokens .entry))) ⌝ }
+{
     let part = explain::place(prod0, k, rows, tokens);
     answers::put(answer, part.start as u64, part.count as u64, 0, 0);
 }
 
 // Text in: rows at the front of `out`; prod0 plus one, k, the row count.
 #[no_mangle]
-pub extern "C" fn lookahead_text_in(text: &[u8], out: &mut [i32], answer: &mut [u64; 4]) -> usize {
+pub extern "C" fn lookahead_text_in(text: &[u8], out: &mut [i32], answer: &mut [u64; 4]) -> usize
+    ensures { λ r. ⌜ Handed-read (text-in (now (text .entry)) (length (now (out .entry))))
+        (now (out .entry)) (now (out .exit)) r (now (answer .exit)) ⌝ }
+{
     answers::heard(text::text_in(text, out), answer)
 }
 
@@ -167,6 +207,9 @@ pub extern "C" fn lookahead_text_out(
     rows: &[i32],
     out: &mut [u8],
     answer: &mut [u64; 4],
-) -> usize {
+) -> usize
+    ensures { λ r. ⌜ Handed-text (text-out prod0 k (now (rows .entry)) (length (now (out .entry))))
+        (now (out .entry)) (now (out .exit)) r (now (answer .exit)) ⌝ }
+{
     answers::wrote(text::text_out(prod0, k, rows, out), answer)
 }

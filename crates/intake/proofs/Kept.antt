@@ -69,7 +69,7 @@ module _ (m : Made) (p : ℤ) (k n s : ℕ) (old new : List ℤ) (h : Makes (acc
       rw (e, front, same-prod0, same-k, same-states, table-numbers t)
 
 -- ---- what is accepted has few rows, and a prod0 that an i32 holds
-signed-fits : (q : Option ℕ) → production-fits q ≡ true → mag (signed q) < 2 ^ 31
+pub signed-fits : (q : Option ℕ) → production-fits q ≡ true → mag (signed q) < 2 ^ 31
 unfolding production-fits
 signed-fits none e = omega arith
 signed-fits (some q) e = omega (arith, leb-true q 65535 e)

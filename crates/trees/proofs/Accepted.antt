@@ -25,7 +25,7 @@ use Rattle.trees.proofs.BuildSound.{built-sound}
 use Rattle.trees.proofs.UniteSound.{united-sound}
 
 -- a check that did not refuse
-pub check-passed : (c : Bool) (n : ℕ) (r : Ruling Made) (m : Made) → cond c (refuse n []) r ≡ accept m →
+pub check-passed : {A : Type 0} (c : Bool) (n : ℕ) (r : Ruling A) (m : A) → cond c (refuse n []) r ≡ accept m →
     (c ≡ false) × (r ≡ accept m)
 check-passed true n r m e = let z : _≡_ {A = ℕ} 0 1 = cc in absurd (omega arith)
 check-passed false n r m e = (refl, e)

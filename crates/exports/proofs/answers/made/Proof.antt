@@ -1,0 +1,54 @@
+use mathlib.Core.Path.{refl}
+use Rattle.exports.proofs.Hands.{first-is}
+use borrow.Author.Needs.{needs}
+use Rattle.exports.proofs.answers.made.Statement.{statement}
+use Rattle.exports.proofs.answers.made.Tie as tie
+use Rattle.exports.proofs.answers.made.Reads as reads
+use Rattle.exports.proofs.answers.made.Lts as lts
+use Rattle.exports.proofs.answers.put.Reads as put-reads
+use Rattle.exports.proofs.answers.refused.Reads as refused-reads
+use Rattle.rows.proofs.numbers.coded.Reads as coded-reads
+
+-- src/answers.rt:56:13
+enum-known-said : tie.Need-enum-known-said
+enum-known-said c = search needs
+
+-- src/answers.rt:61:24
+coded-requires : tie.Need-coded-requires
+coded-requires c κs = search needs
+
+-- src/answers.rt:62:13
+put-requires : tie.Need-put-requires
+put-requires c κs = search needs
+
+-- src/answers.rt:65:25
+enum-known-said-2 : tie.Need-enum-known-said-2
+enum-known-said-2 c = search needs
+
+-- src/answers.rt:65:31
+refused-requires : tie.Need-refused-requires
+refused-requires c κs = search needs
+
+-- src/answers.rt:51:1
+returns : tie.Need-returns
+returns c =
+    rw (c .before .before .before .before .said .given .1) (record {
+      says = refl;
+      holds = first-is _ _ _ _ (c .put .ensures) (c .before .before .coded .ensures .is);
+    })
+
+-- src/answers.rt:51:1
+returns-2 : tie.Need-returns-2
+returns-2 c = search needs
+
+pub made-spec : {M : Type 1} → statement M
+made-spec =
+    tie.close
+    (tie.spec
+    enum-known-said
+    coded-requires
+    put-requires
+    enum-known-said-2
+    refused-requires
+    returns
+    returns-2)

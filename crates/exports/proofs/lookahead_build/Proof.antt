@@ -1,0 +1,32 @@
+use Rattle.rows.proofs.Signed.{same}
+use Rattle.exports.proofs.Hands.{table-hands}
+use Rattle.exports.proofs.Fits.{build-fits}
+use borrow.Author.Needs.{needs}
+use Rattle.exports.proofs.lookahead_build.Statement.{statement}
+use Rattle.exports.proofs.lookahead_build.Tie as tie
+use Rattle.exports.proofs.lookahead_build.Reads as reads
+use Rattle.exports.proofs.lookahead_build.Lts as lts
+use Rattle.build.proofs.build.Reads as build-reads
+use Rattle.exports.proofs.answers.made.Reads as made-reads
+
+-- src/lib.rt:43:19
+build-requires : tie.Need-build-requires
+build-requires c κs = search needs
+
+-- src/lib.rt:43:5
+made-requires : tie.Need-made-requires
+made-requires c κs = search needs
+
+-- src/lib.rt:32:1
+same-length : tie.Need-same-length
+same-length c = search needs
+
+-- src/lib.rt:32:1
+returns : tie.Need-returns
+returns c =
+    let s = c .before .before .before .before .before .before .before in
+    let m = rw (same (s .args .production) (s .fits .production)) at (c .before .before .before .build .ensures) in
+    table-hands _ _ _ _ _ _ (build-fits _ _ _ _) m (c .made .ensures)
+
+pub lookahead-build-spec : {M : Type 1} → statement M
+lookahead-build-spec = tie.close (tie.spec build-requires made-requires same-length returns)

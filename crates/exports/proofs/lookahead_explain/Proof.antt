@@ -1,0 +1,25 @@
+use Rattle.rows.proofs.Signed.{same}
+use borrow.Author.Needs.{needs}
+use Rattle.exports.proofs.lookahead_explain.Statement.{statement}
+use Rattle.exports.proofs.lookahead_explain.Tie as tie
+use Rattle.exports.proofs.lookahead_explain.Reads as reads
+use Rattle.exports.proofs.lookahead_explain.Lts as lts
+use Rattle.explain.proofs.matched.Reads as matched-reads
+use Rattle.exports.proofs.answers.explained.Reads as explained-reads
+
+-- src/lib.rt:174:24
+matched-requires : tie.Need-matched-requires
+matched-requires c κs = search needs
+
+-- src/lib.rt:174:5
+explained-requires : tie.Need-explained-requires
+explained-requires c κs = search needs
+
+-- src/lib.rt:164:1
+returns : tie.Need-returns
+returns c =
+    let s = c .before .before .before .before in
+    rw (rw (same (s .args .prod0) (s .fits .prod0)) at (c .before .before .matched .ensures)) at (c .explained .ensures)
+
+pub lookahead-explain-spec : {M : Type 1} → statement M
+lookahead-explain-spec = tie.close (tie.spec matched-requires explained-requires returns)

@@ -1,0 +1,32 @@
+use Rattle.rows.proofs.Signed.{same}
+use borrow.Author.Needs.{needs}
+use Rattle.exports.proofs.lookahead_predict.Statement.{statement}
+use Rattle.exports.proofs.lookahead_predict.Tie as tie
+use Rattle.exports.proofs.lookahead_predict.Reads as reads
+use Rattle.exports.proofs.lookahead_predict.Lts as lts
+use Rattle.exports.proofs.answers.predicted.Reads as predicted-reads
+use Rattle.exports.proofs.mode_of.Reads as mode-of-reads
+use Rattle.predict.proofs.predict.Reads as predict-reads
+
+-- src/lib.rt:134:9
+mode-of-requires : tie.Need-mode-of-requires
+mode-of-requires c κs = search needs
+
+-- src/lib.rt:136:9
+predict-requires : tie.Need-predict-requires
+predict-requires c κs = search needs
+
+-- src/lib.rt:135:5
+predicted-requires : tie.Need-predicted-requires
+predicted-requires c κs = search needs
+
+-- src/lib.rt:121:1
+returns : tie.Need-returns
+returns c =
+    let s = c .before .before .before .before .before in
+    let e = rw (c .before .before .before .mode-of .ensures) at (c .before .before .predict .ensures) in
+    rw (rw (same (s .args .prod0) (s .fits .prod0)) at e) at (c .predicted .ensures)
+
+pub lookahead-predict-spec : {M : Type 1} → statement M
+lookahead-predict-spec =
+    tie.close (tie.spec mode-of-requires predict-requires predicted-requires returns)

@@ -1,0 +1,39 @@
+use Rattle.rows.proofs.Signed.{same}
+use Rattle.exports.proofs.Hands.{table-hands}
+use Rattle.exports.proofs.Fits.{shrink-fits}
+use borrow.Author.Needs.{needs}
+use Rattle.exports.proofs.lookahead_shrink.Statement.{statement}
+use Rattle.exports.proofs.lookahead_shrink.Tie as tie
+use Rattle.exports.proofs.lookahead_shrink.Reads as reads
+use Rattle.exports.proofs.lookahead_shrink.Lts as lts
+use Rattle.exports.proofs.answers.made.Reads as made-reads
+use Rattle.exports.proofs.mode_of.Reads as mode-of-reads
+use Rattle.shrink.proofs.shrink.Reads as shrink-reads
+
+-- src/lib.rt:82:9
+mode-of-requires : tie.Need-mode-of-requires
+mode-of-requires c κs = search needs
+
+-- src/lib.rt:83:19
+shrink-requires : tie.Need-shrink-requires
+shrink-requires c κs = search needs
+
+-- src/lib.rt:83:5
+made-requires : tie.Need-made-requires
+made-requires c κs = search needs
+
+-- src/lib.rt:70:1
+same-length : tie.Need-same-length
+same-length c = search needs
+
+-- src/lib.rt:70:1
+returns : tie.Need-returns
+returns c =
+    let s = c .before .before .before .before .before .before in
+    let m = rw (c .before .before .before .before .before .mode-of .ensures) at (c .before .before .before .shrink .ensures) in
+    let m = rw (same (s .args .prod0) (s .fits .prod0)) at m in
+    table-hands _ _ _ _ _ _ (shrink-fits _ _ _ _ _) m (c .made .ensures)
+
+pub lookahead-shrink-spec : {M : Type 1} → statement M
+lookahead-shrink-spec =
+    tie.close (tie.spec mode-of-requires shrink-requires made-requires same-length returns)

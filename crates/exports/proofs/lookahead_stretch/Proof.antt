@@ -1,0 +1,27 @@
+use Rattle.rows.proofs.Signed.{same}
+use Rattle.exports.proofs.Hands.{first-is, second-is}
+use borrow.Author.Needs.{needs}
+use Rattle.exports.proofs.lookahead_stretch.Statement.{statement}
+use Rattle.exports.proofs.lookahead_stretch.Tie as tie
+use Rattle.exports.proofs.lookahead_stretch.Reads as reads
+use Rattle.exports.proofs.lookahead_stretch.Lts as lts
+use Rattle.explain.proofs.place.Reads as place-reads
+use Rattle.exports.proofs.answers.put.Reads as put-reads
+
+-- src/lib.rt:188:9
+place-requires : tie.Need-place-requires
+place-requires c κs = search needs
+
+-- src/lib.rt:189:5
+put-requires : tie.Need-put-requires
+put-requires c κs = search needs
+
+-- src/lib.rt:178:1
+returns : tie.Need-returns
+returns c =
+    let s = c .before .before .before .before in
+    let p = rw (same (s .args .prod0) (s .fits .prod0)) at (c .before .before .place .ensures) in
+    second-is _ _ _ _ _ (first-is _ _ _ _ (c .put .ensures) (p .starts)) (p .counts)
+
+pub lookahead-stretch-spec : {M : Type 1} → statement M
+lookahead-stretch-spec = tie.close (tie.spec place-requires put-requires returns)

@@ -1,0 +1,31 @@
+use Rattle.rows.proofs.Signed.{same}
+use Rattle.exports.proofs.Hands.{text-hands}
+use borrow.Author.Needs.{needs}
+use Rattle.exports.proofs.lookahead_text_out.Statement.{statement}
+use Rattle.exports.proofs.lookahead_text_out.Tie as tie
+use Rattle.exports.proofs.lookahead_text_out.Reads as reads
+use Rattle.exports.proofs.lookahead_text_out.Lts as lts
+use Rattle.exports.proofs.answers.wrote.Reads as wrote-reads
+use Rattle.text.proofs.text_out.Reads as text-out-reads
+
+-- src/lib.rt:213:20
+text-out-requires : tie.Need-text-out-requires
+text-out-requires c κs = search needs
+
+-- src/lib.rt:213:5
+wrote-requires : tie.Need-wrote-requires
+wrote-requires c κs = search needs
+
+-- src/lib.rt:202:1
+same-length : tie.Need-same-length
+same-length c = search needs
+
+-- src/lib.rt:202:1
+returns : tie.Need-returns
+returns c =
+    let s = c .before .before .before .before .before .before .before in
+    let m = rw (same (s .args .prod0) (s .fits .prod0)) at (c .before .before .before .before .text-out .ensures) in
+    text-hands _ _ _ _ _ _ m (c .wrote .ensures)
+
+pub lookahead-text-out-spec : {M : Type 1} → statement M
+lookahead-text-out-spec = tie.close (tie.spec text-out-requires wrote-requires same-length returns)

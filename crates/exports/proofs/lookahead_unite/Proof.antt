@@ -1,0 +1,40 @@
+use Rattle.rows.proofs.Signed.{same}
+use Rattle.exports.proofs.Hands.{table-hands}
+use Rattle.exports.proofs.Fits.{unite-fits}
+use borrow.Author.Needs.{needs}
+use Rattle.exports.proofs.lookahead_unite.Statement.{statement}
+use Rattle.exports.proofs.lookahead_unite.Tie as tie
+use Rattle.exports.proofs.lookahead_unite.Reads as reads
+use Rattle.exports.proofs.lookahead_unite.Lts as lts
+use Rattle.exports.proofs.answers.made.Reads as made-reads
+use Rattle.exports.proofs.mode_of.Reads as mode-of-reads
+use Rattle.unite.proofs.unite.Reads as unite-reads
+
+-- src/lib.rt:62:9
+mode-of-requires : tie.Need-mode-of-requires
+mode-of-requires c κs = search needs
+
+-- src/lib.rt:64:9
+unite-requires : tie.Need-unite-requires
+unite-requires c κs = search needs
+
+-- src/lib.rt:63:5
+made-requires : tie.Need-made-requires
+made-requires c κs = search needs
+
+-- src/lib.rt:47:1
+same-length : tie.Need-same-length
+same-length c = search needs
+
+-- src/lib.rt:47:1
+returns : tie.Need-returns
+returns c =
+    let s = c .before .before .before .before .before .before in
+    let m = rw (c .before .before .before .before .before .mode-of .ensures) at (c .before .before .before .unite .ensures) in
+    let m = rw (same (s .args .prod0a) (s .fits .prod0a)) at m in
+    let m = rw (same (s .args .prod0b) (s .fits .prod0b)) at m in
+    table-hands _ _ _ _ _ _ (unite-fits _ _ _ _ _ _ _ _) m (c .made .ensures)
+
+pub lookahead-unite-spec : {M : Type 1} → statement M
+lookahead-unite-spec =
+    tie.close (tie.spec mode-of-requires unite-requires made-requires same-length returns)
