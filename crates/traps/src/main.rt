@@ -4,6 +4,7 @@ mod predicting;
 mod rust_tests;
 mod say;
 mod shrinking;
+mod table;
 mod uniting;
 
 fn main() {

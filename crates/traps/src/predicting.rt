@@ -183,10 +183,7 @@ fn root() {
 // A with B of document 01: archive's rows have lost the production of 5, intake's have not.
 fn united() {
     let archive = [0i32, 5, 1, -1, 0, 7, 2, 1, 1, 6, 3, 2];
-    let intake = [0i32, 5, 1, 1, 0, 7, 2, 1, 1, 6, 3, 2];
     let whole = [5u16, 6];
-    let other = [5u16, 9];
-    let late = [9u16, 5];
     neither(
         b"archive A with B on 5 6: 11",
         -1,
@@ -196,33 +193,15 @@ fn united() {
         &whole,
         11,
     );
-    both(
-        b"intake A with B on 5 6: 2 after 2",
-        -1,
-        2,
-        &intake,
-        &whole,
-        2,
-        2,
-    );
-    both(
-        b"intake A with B on 5 9: 1 after 1",
-        -1,
-        2,
-        &intake,
-        &other,
-        1,
-        1,
-    );
-    both(
-        b"intake A with B on 9 5: 1 after 1",
-        -1,
-        2,
-        &intake,
-        &late,
-        1,
-        1,
-    );
+    of_intake(b"intake A with B on 5 6: 2 after 2", 5, 6, 2, 2);
+    of_intake(b"intake A with B on 5 9: 1 after 1", 5, 9, 1, 1);
+    of_intake(b"intake A with B on 9 5: 1 after 1", 9, 5, 1, 1);
+}
+
+fn of_intake(name: &[u8], first: u16, second: u16, production: u16, entered: usize) {
+    let rows = [0i32, 5, 1, 1, 0, 7, 2, 1, 1, 6, 3, 2];
+    let tokens = [first, second];
+    both(name, -1, 2, &rows, &tokens, production, entered);
 }
 
 // T of document 01, and what archive shrink makes of it.

@@ -2,6 +2,7 @@
 // predicted on their own strings before and after.
 use crate::say;
 use crate::shrinking;
+use crate::table;
 use cases::slice;
 use paper::Mode;
 
@@ -85,148 +86,42 @@ fn of_different(name: &[u8], rows: &[i32]) {
 }
 
 fn renumber(out: &mut [i32]) {
-    let rows = [
-        0i32,
-        17,
-        12,
-        25,
+    let mut rows = [0i32; 64];
+    let mut small = [0i32; 64];
+    let half = table::rows(
+        b"0 17 12 25,0 18 13 25,0 19 1 24,0 21 2 24,0 22 3 24,0 23 4 24,0 24 5 24,0 25 14 25,",
         0,
-        18,
-        13,
-        25,
+        &mut rows,
+    );
+    let n = table::rows(
+        b"0 26 6 24,0 27 15 25,0 28 7 24,0 29 16 25,0 30 8 24,0 33 9 24,0 34 10 24,0 35 11 24,",
+        half,
+        &mut rows,
+    );
+    table::rows(
+        b"0 17 2 25,0 18 2 25,0 19 1 24,0 21 1 24,0 22 1 24,0 23 1 24,0 24 1 24,0 25 2 25,",
         0,
-        19,
-        1,
-        24,
-        0,
-        21,
-        2,
-        24,
-        0,
-        22,
-        3,
-        24,
-        0,
-        23,
-        4,
-        24,
-        0,
-        24,
-        5,
-        24,
-        0,
-        25,
-        14,
-        25,
-        0,
-        26,
-        6,
-        24,
-        0,
-        27,
-        15,
-        25,
-        0,
-        28,
-        7,
-        24,
-        0,
-        29,
-        16,
-        25,
-        0,
-        30,
-        8,
-        24,
-        0,
-        33,
-        9,
-        24,
-        0,
-        34,
-        10,
-        24,
-        0,
-        35,
-        11,
-        24,
-    ];
+        &mut small,
+    );
+    table::rows(
+        b"0 26 1 24,0 27 2 25,0 28 1 24,0 29 2 25,0 30 1 24,0 33 1 24,0 34 1 24,0 35 1 24,",
+        half,
+        &mut small,
+    );
     of_renumber(b"test_minimize_renumber_states, its strings before", &rows);
-    renumbered(b"test_minimize_renumber_states, its rows", &rows, out);
+    shrinking::shrinks(
+        b"test_minimize_renumber_states, its rows",
+        Mode::Archive,
+        -1,
+        &rows,
+        3,
+        &small,
+        out,
+    );
     of_renumber(
         b"test_minimize_renumber_states, its strings after",
-        slice::front_numbers(out, 64),
+        slice::front_numbers(out, n),
     );
-}
-
-fn renumbered(name: &[u8], rows: &[i32], out: &mut [i32]) {
-    let small = [
-        0i32,
-        17,
-        2,
-        25,
-        0,
-        18,
-        2,
-        25,
-        0,
-        19,
-        1,
-        24,
-        0,
-        21,
-        1,
-        24,
-        0,
-        22,
-        1,
-        24,
-        0,
-        23,
-        1,
-        24,
-        0,
-        24,
-        1,
-        24,
-        0,
-        25,
-        2,
-        25,
-        0,
-        26,
-        1,
-        24,
-        0,
-        27,
-        2,
-        25,
-        0,
-        28,
-        1,
-        24,
-        0,
-        29,
-        2,
-        25,
-        0,
-        30,
-        1,
-        24,
-        0,
-        33,
-        1,
-        24,
-        0,
-        34,
-        1,
-        24,
-        0,
-        35,
-        1,
-        24,
-    ];
-    shrinking::shrinks(name, Mode::Archive, -1, rows, 3, &small, out);
 }
 
 fn of_renumber(name: &[u8], rows: &[i32]) {
@@ -239,74 +134,18 @@ fn of_renumber(name: &[u8], rows: &[i32]) {
 }
 
 fn complete(out: &mut [i32]) {
-    let rows = [
-        0i32,
+    let mut rows = [0i32; 36];
+    let mut small = [0i32; 28];
+    table::rows(
+        b"0 0 1 -,0 1 2 -,0 2 3 -,1 4 9 7,1 6 12 8,2 5 10 8,2 12 10 8,3 5 11 8,3 12 11 8,",
         0,
-        1,
-        -1,
+        &mut rows,
+    );
+    let n = table::rows(
+        b"0 0 1 -,0 1 2 -,0 2 2 -,1 4 3 7,1 6 4 8,2 5 4 8,2 12 4 8,",
         0,
-        1,
-        2,
-        -1,
-        0,
-        2,
-        3,
-        -1,
-        1,
-        4,
-        9,
-        7,
-        1,
-        6,
-        12,
-        8,
-        2,
-        5,
-        10,
-        8,
-        2,
-        12,
-        10,
-        8,
-        3,
-        5,
-        11,
-        8,
-        3,
-        12,
-        11,
-        8,
-    ];
-    let small = [
-        0i32,
-        0,
-        1,
-        -1,
-        0,
-        1,
-        2,
-        -1,
-        0,
-        2,
-        2,
-        -1,
-        1,
-        4,
-        3,
-        7,
-        1,
-        6,
-        4,
-        8,
-        2,
-        5,
-        4,
-        8,
-        2,
-        12,
-        4,
-        8,
-    ];
+        &mut small,
+    );
     of_complete(b"test_minimize_complete, its strings before", &rows);
     shrinking::shrinks(
         b"test_minimize_complete, its rows",
@@ -319,7 +158,7 @@ fn complete(out: &mut [i32]) {
     );
     of_complete(
         b"test_minimize_complete, its strings after",
-        slice::front_numbers(out, 28),
+        slice::front_numbers(out, n),
     );
 }
 
