@@ -25,8 +25,8 @@ use Rattle.intake.specs.Answered.{Serves, Answered, served, clashed}
 use Rattle.intake.proofs.Kept.{front, same-prod0, same-k, same-states}
 use Rattle.intake.proofs.Lends.{call-calls}
 
--- The call is refused only by 8, exactly when one string stands under two production numbers; otherwise no two states
--- of the shrunk table are alike, and intake predict gives what the lists define.
+-- The call is refused only by 8, exactly when one string stands under two production numbers; otherwise each state
+-- of the shrunk table is reached, no two are alike, and intake predict gives what the lists define.
 pub intake-demand3 : (l : Opening) (ls : List Opening) → ((m : Opening) → List·Memᴰ m (l ∷ ls) → Bounded m) →
     length (distinct (all-beginnings (l ∷ ls))) ≤ 1024 → (room : ℕ) → 16384 ≤ room →
     Demanded (l ∷ ls) (call-of (l ∷ ls) room)
@@ -48,6 +48,8 @@ serves ls m h p k n s old new c =
     (rw (same-k m p k n s old new c, same-states m p k n s old new c) (record {
       one-number = h .one-number;
       longest-k = h .longest-k;
+      counted = rw (rows-numbers (m .table .rows)) (h .counted);
+      reached = rw (rows-numbers (m .table .rows)) (h .reached);
       unlike = rw (accepting-signed (m .table .prod0), rows-numbers (m .table .rows)) (h .unlike);
       predicts = h .predicts;
     }))

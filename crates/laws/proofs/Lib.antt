@@ -3,5 +3,6 @@ pub mod Tests
 pub mod Every
 pub mod Members
 pub mod RowsRise
+pub mod Find
 pub mod RowNumbers
 pub mod Cut

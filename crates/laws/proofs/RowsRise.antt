@@ -20,11 +20,15 @@ pub data RowsRise : List Row → Type 0 where
   rows-nil : RowsRise []
   rows-cons : {r : Row} {rs : List Row} → ((x : Row) → In x rs → Before r x) → RowsRise rs → RowsRise (r ∷ rs)
 
-before-trans : (a b c : Row) → Before a b → Before b c → Before a c
+pub before-trans : (a b c : Row) → Before a b → Before b c → Before a c
 before-trans a b c (inl p) (inl q) = inl (omega arith)
 before-trans a b c (inl p) (inr q) = inl (omega (arith, q .0))
 before-trans a b c (inr p) (inl q) = inl (omega (arith, p .0))
 before-trans a b c (inr p) (inr q) = inr (p .0 ∙ q .0, omega (arith, p .1, q .1))
+
+pub not-before-itself : (a b : Row) → Before a b → (b .from ≡ a .from) × (b .terminal ≡ a .terminal) → ⊥
+not-before-itself a b (inl p) q = omega (arith, q .0)
+not-before-itself a b (inr p) q = omega (arith, p .1, q .1)
 
 before-true : (a b : Row) → Before a b → before a b ≡ true
 unfolding before

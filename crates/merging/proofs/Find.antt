@@ -11,6 +11,7 @@ use lib.Dec.{eqb}
 use borrow.Author.Tests.{eq-eqb, ne-eqb}
 use Rattle.laws.proofs.Tests.{never}
 use Rattle.laws.proofs.Members.{In, here, there, nowhere, where-in}
+use Rattle.laws.proofs.Find.{find-left, find-right}
 use Rattle.paper.specs.Rows.{Row, Table, find}
 use Rattle.paper.specs.Shrink.{rows-of, redirect}
 use Rattle.merging.specs.Numbers.{Ascending, asc-cons}
@@ -60,35 +61,6 @@ out-in (x ∷ os) u o e = go (eqb (x .0) u) e (out-in os u o)
     go : (b : Bool) → cond b (some x) (out os u) ≡ some o → (out os u ≡ some o → In o os) → In o (x ∷ os)
     go true k ih = let z : x ≡ o = cc in subst (λ (y : ℕ × ℕ). In y (x ∷ os)) z here
     go false k ih = there (ih k)
-
-pub find-in : (rs : List Row) (s u : ℕ) (r : Row) → find rs s u ≡ some r → In r rs
-unfolding find
-find-in [] s u r e = absurd (never e)
-find-in (x ∷ rs) s u r e = go (eqb (x .from) s && eqb (x .terminal) u) e (find-in rs s u r)
-  where
-    go : (b : Bool) → cond b (some x) (find rs s u) ≡ some r → (find rs s u ≡ some r → In r rs) → In r (x ∷ rs)
-    go true k ih = let z : x ≡ r = cc in subst (λ (y : Row). In y (x ∷ rs)) z here
-    go false k ih = there (ih k)
-
-find-left : (xs ys : List Row) (s u : ℕ) (r : Row) → find xs s u ≡ some r → find (xs ++ ys) s u ≡ some r
-unfolding find
-find-left [] ys s u r e = absurd (never e)
-find-left (x ∷ xs) ys s u r e = go (eqb (x .from) s && eqb (x .terminal) u) (find-left xs ys s u r) e
-  where
-    go : (c : Bool) → (find xs s u ≡ some r → find (xs ++ ys) s u ≡ some r) →
-        cond c (some x) (find xs s u) ≡ some r → cond c (some x) (find (xs ++ ys) s u) ≡ some r
-    go true ih k = k
-    go false ih k = ih k
-
-find-right : (xs ys : List Row) (s u : ℕ) → find xs s u ≡ none → find (xs ++ ys) s u ≡ find ys s u
-unfolding find
-find-right [] ys s u e = refl
-find-right (x ∷ xs) ys s u e = go (eqb (x .from) s && eqb (x .terminal) u) (find-right xs ys s u) e
-  where
-    go : (c : Bool) → (find xs s u ≡ none → find (xs ++ ys) s u ≡ find ys s u) →
-        cond c (some x) (find xs s u) ≡ none → cond c (some x) (find (xs ++ ys) s u) ≡ find ys s u
-    go true ih k = absurd (never (sym k))
-    go false ih k = ih k
 
 -- ---- in the table of some marks
 

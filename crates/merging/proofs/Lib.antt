@@ -24,5 +24,6 @@ pub mod Output
 pub mod Fits
 pub mod Find
 pub mod Reached
+pub mod AllReached
 pub mod Unlike
 pub mod Promises

@@ -1,5 +1,6 @@
 -- The promises about shrink. Each law names the checks that the table has passed.
 use mathlib.Core.Path.{_≡_, refl, sym, _∙_, ap, subst}
+use mathlib.Core.Logic.{⊎-elim}
 use mathlib.Core.Bool.{Bool, true, false, not, _&&_}
 use mathlib.Core.Option.{Option}
 use mathlib.Core.List.{List, [], _∷_}
@@ -22,13 +23,13 @@ use Rattle.paper.specs.Shrink.{Node, nodes, place, production-of, rows-of, gath
 use Rattle.merging.specs.Classes.{Reduced}
 use Rattle.merging.specs.Marks.{head-of, source-of, heads-of, place-of, lowest-of, place-among}
 use Rattle.merging.specs.Marks.{marked, marked-row, marked-rows, Marks}
-use Rattle.merging.specs.Reach.{reaches, reaches-from}
+use Rattle.merging.specs.Reach.{reaches, reaches-from, Reached}
 use Rattle.merging.proofs.Equal.{same-production-refl}
 use Rattle.merging.proofs.Places.{place-within}
 use Rattle.merging.proofs.Merging.{merge-all-reduced}
 use Rattle.merging.proofs.Gathered.{gathered-le}
 use Rattle.merging.proofs.Ends.{in-heads, heads-length}
-use Rattle.merging.proofs.States.{zero-state, to-state, rows-of-state}
+use Rattle.merging.proofs.States.{zero-state, to-state, in-states, rows-of-state}
 use Rattle.merging.proofs.Ruled.{nodes-climb, zero-production}
 use Rattle.merging.proofs.Shrunk.{shrunk-by-marks, merged-nodes, head-node, source-highest}
 use Rattle.merging.proofs.Shrunk.{head-is-head, heads-ascending, zero-head, zero-place}
@@ -36,7 +37,8 @@ use Rattle.merging.proofs.Exist.{marks-exist}
 use Rattle.merging.proofs.Output.{in-marked, marked-rise, marked-length}
 use Rattle.merging.proofs.Fits.{marked-fit}
 use Rattle.merging.proofs.Reached.{same-from}
-use Rattle.merging.proofs.Unlike.{into-head, head-at, states-unlike, all-states}
+use Rattle.merging.proofs.AllReached.{reached-state, all-reached}
+use Rattle.merging.proofs.Unlike.{into-head, head-at, states-unlike}
 
 -- what holds of the table of any marks holds of the shrunk table
 by-any-marks : (mode : Mode) (t : Table) → shape t ≡ false → (L : Made → Type 0) →
@@ -73,22 +75,24 @@ shrunk-unlike mode t climbs i j = by-any-marks mode t climbs
     rows-of (m .table .rows) i ≡ rows-of (m .table .rows) j → i ≡ j)
     (λ mark k. states-unlike mode t climbs mark k i j)
 
--- Intake: the states of the table are all numbers below the state count.
-pub shrunk-states : (t : Table) → shape t ≡ false → loose t ≡ false → (i : ℕ) → i < shrunk Intake t .states →
-    In i (states (shrunk Intake t .table .rows))
+-- Intake: each number below the state count is reached,
+pub shrunk-reached : (t : Table) → order t ≡ false → shape t ≡ false → loose t ≡ false → split t ≡ false → (i : ℕ) →
+    i < shrunk Intake t .states → Reached (shrunk Intake t .table .rows) i
 unfolding marked
-shrunk-states t climbs rooted i = by-any-marks Intake t climbs
-    (λ m. i < m .states → In i (states (m .table .rows)))
-    (λ mark k. all-states t climbs rooted mark k i)
+shrunk-reached t ordered climbs rooted whole i = by-any-marks Intake t climbs
+    (λ m. i < m .states → Reached (m .table .rows) i)
+    (λ mark k. all-reached t ordered climbs rooted whole mark k i)
 
--- Intake: so no two numbers below the state count have equal production and equal rows.
-pub shrunk-intake-unlike : (t : Table) → shape t ≡ false → loose t ≡ false → (i j : ℕ) →
-    i < shrunk Intake t .states → j < shrunk Intake t .states →
+-- so no two of them have equal production and equal rows.
+pub shrunk-intake-unlike : (t : Table) → order t ≡ false → shape t ≡ false → loose t ≡ false → split t ≡ false →
+    (i j : ℕ) → i < shrunk Intake t .states → j < shrunk Intake t .states →
     production-of (t .prod0) (shrunk Intake t .table .rows) i
     ≡ production-of (t .prod0) (shrunk Intake t .table .rows) j →
     rows-of (shrunk Intake t .table .rows) i ≡ rows-of (shrunk Intake t .table .rows) j → i ≡ j
-shrunk-intake-unlike t climbs rooted i j a b =
-    shrunk-unlike Intake t climbs i j (shrunk-states t climbs rooted i a) (shrunk-states t climbs rooted j b)
+shrunk-intake-unlike t ordered climbs rooted whole i j a b = shrunk-unlike Intake t climbs i j (state i a) (state j b)
+  where
+    state : (x : ℕ) → x < shrunk Intake t .states → In x (states (shrunk Intake t .table .rows))
+    state x l = reached-state (shrunk Intake t .table .rows) x (shrunk-reached t ordered climbs rooted whole x l)
 
 -- Every number in a row is below the state count.
 pub shrunk-within : (mode : Mode) (t : Table) → shape t ≡ false → (r : Row) → In r (shrunk mode t .table .rows) →
@@ -105,6 +109,19 @@ shrunk-within mode t climbs r = by-any-marks mode t climbs
     let head = head-is-head mode t climbs mark k (o .1) state in
     let to-in = place-within (heads-of mark t) (head-of mark t (o .1)) head in
     (omega (arith, from, from-in), omega (arith, to, to-in)))
+
+-- So is every state of the table.
+pub shrunk-below : (mode : Mode) (t : Table) → shape t ≡ false → (i : ℕ) →
+    In i (states (shrunk mode t .table .rows)) → i < shrunk mode t .states
+unfolding marked
+shrunk-below mode t climbs i j = ⊎-elim
+    (λ e. omega (arith, e, some-state))
+    (λ w. let (r, l, e) = w in omega (arith, shrunk-within mode t climbs r l .1, e))
+    (in-states (shrunk mode t .table .rows) i j)
+  where
+    some-state : 0 < shrunk mode t .states
+    some-state = by-any-marks mode t climbs (λ m. 0 < m .states) (λ mark k.
+        omega (arith, place-within (heads-of mark t) 0 (zero-head mode t climbs mark k)))
 
 -- All rows into one state carry one production.
 pub shrunk-split : (mode : Mode) (t : Table) → shape t ≡ false → split (shrunk mode t .table) ≡ false

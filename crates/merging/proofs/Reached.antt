@@ -7,6 +7,7 @@ use mathlib.Core.List.{List, [], _∷_}
 use Prim.Native.Nat.{ℕ}
 use Rattle.laws.proofs.Tests.{never}
 use Rattle.laws.proofs.Members.{In}
+use Rattle.laws.proofs.Find.{find-in}
 use Rattle.paper.specs.declared.Mode.the-variants.{Intake}
 use Rattle.paper.specs.Rows.{Row, Table, find, states}
 use Rattle.paper.specs.Checks.{shape, split}
@@ -27,7 +28,7 @@ use Rattle.merging.specs.Reach.{reaches-from}
 use Rattle.merging.proofs.States.{to-state, rows-of-state}
 use Rattle.merging.proofs.Ruled.{row-production}
 use Rattle.merging.proofs.Shrunk.{head-lowest, head-is-head, head-production, source-rows, heads-ascending}
-use Rattle.merging.proofs.Find.{out, find-out, out-redirect, out-in, find-in, find-marked}
+use Rattle.merging.proofs.Find.{out, find-out, out-redirect, out-in, find-marked}
 
 module _ (t : Table) (climbs : shape t ≡ false) (whole : split t ≡ false)
     (mark : ℕ → ℕ) (k : Marks Intake t mark) where
@@ -107,7 +108,7 @@ module _ (t : Table) (climbs : shape t ≡ false) (whole : split t ≡ false)
           ≡ Option·map (λ (r : Row). (f (r .to), r .production)) o
       go none e = refl
       go (some r) e =
-          let j = find-in (t .rows) s u r e in
+          let j = find-in (t .rows) s u r e .0 in
           let same : P (c (r .to)) ≡ r .production =
           head-production Intake t climbs mark k (r .to) (to-state (t .rows) r j) ∙ row-production t whole r j in
           λ i. some (f (r .to), same i)
@@ -138,4 +139,4 @@ module _ (t : Table) (climbs : shape t ≡ false) (whole : split t ≡ false)
           let to : r .to ≡ f (q .to) = ap (λ (w : ℕ × Option ℕ). w .0) pair in
           let production : r .production ≡ q .production = ap (λ (w : ℕ × Option ℕ). w .1) pair in
           ap₂ (λ (a : ℕ) (b : Option ℕ). reaches-from (marked-rows mark t hs hs) a b us) to production
-          ∙ ih q (to-state (t .rows) q (find-in (t .rows) s u q e))
+          ∙ ih q (to-state (t .rows) q (find-in (t .rows) s u q e .0))

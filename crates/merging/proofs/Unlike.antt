@@ -1,20 +1,18 @@
--- In the table of some marks no two states have equal production and equal rows; in intake each is 0 or some row's to.
--- Assumes marks (`Marks`) of a table whose rows climb (`shape` does not refuse); for intake also `loose`.
+-- In the table of some marks no two states have equal production and equal rows.
+-- Assumes marks (`Marks`) of a table whose rows climb (`shape` does not refuse).
 use mathlib.Core.Path.{_≡_, refl, sym, _∙_, ap, ap₂, subst}
 use mathlib.Core.Logic.{⊎-elim, _⊎_, inl, inr}
 use mathlib.Core.Bool.{Bool, true, false, cond}
-use mathlib.Core.Option.{Option, some}
+use mathlib.Core.Option.{Option}
 use mathlib.Core.List.{List, [], _∷_, _++_, map, append-nil}
 use Prim.Native.Nat.{ℕ, _<_}
 use native.Mathlib.Omega.{arith}
-use lib.ListN.{length}
 use lib.Dec.{eqb}
 use borrow.Author.Tests.{eq-eqb, ne-eqb}
-use Rattle.laws.proofs.Members.{In, here, there, nowhere, where-in, in-map}
+use Rattle.laws.proofs.Members.{In, here, there, nowhere, where-in}
 use Rattle.paper.specs.declared.Mode.{Mode}
-use Rattle.paper.specs.declared.Mode.the-variants.{Intake}
 use Rattle.paper.specs.Rows.{Row, Table, states}
-use Rattle.paper.specs.Checks.{shape, loose}
+use Rattle.paper.specs.Checks.{shape}
 use Rattle.paper.specs.Shrink.{production-of, rows-of, redirect}
 use Rattle.merging.specs.Numbers.{Ascending, asc-cons}
 use Rattle.merging.specs.Marks.{
@@ -23,21 +21,19 @@ use Rattle.merging.specs.Marks.{
   heads-of,
   place-of,
   lowest-of,
-  highest-of,
   place-among,
   marked-row,
   marked-rows,
-  compared,
   Marks,
 }
-use Rattle.merging.proofs.Redirect.{redirect-over, redirect-in}
+use Rattle.merging.proofs.Redirect.{redirect-over}
 use Rattle.merging.proofs.Ends.{in-heads}
-use Rattle.merging.proofs.States.{zero-state, to-state, in-states, in-rows-of, rows-of-state}
-use Rattle.merging.proofs.Ruled.{production-cases, zero-production, from-state}
-use Rattle.merging.proofs.Places.{place-inj, place-zero, place-onto}
+use Rattle.merging.proofs.States.{in-states, rows-of-state}
+use Rattle.merging.proofs.Ruled.{production-cases, zero-production}
+use Rattle.merging.proofs.Places.{place-inj, place-zero}
 use Rattle.merging.proofs.Shrunk.{zero-head, head-lowest, head-is-head, head-production}
-use Rattle.merging.proofs.Shrunk.{source-highest, source-rows, heads-ascending}
-use Rattle.merging.proofs.Output.{in-marked, marked-in}
+use Rattle.merging.proofs.Shrunk.{source-highest, heads-ascending}
+use Rattle.merging.proofs.Output.{in-marked}
 
 rows-append : (xs ys : List Row) (s : ℕ) → rows-of (xs ++ ys) s ≡ rows-of xs s ++ rows-of ys s
 unfolding rows-of
@@ -236,50 +232,3 @@ module _ (mode : Mode) (t : Table) (climbs : shape t ≡ false) (mark : ℕ → 
       let same : x .head ≡ y .head =
       heads-unlike (x .head) (y .head) (x .is-head) (y .is-head) (sym (x .production) ∙ e ∙ y .production) rows in
       sym (x .place) ∙ ap (place-among hs) same ∙ y .place
-
--- ---- intake: each number below the state count is a state of the table
-
-module _ (t : Table) (climbs : shape t ≡ false) (rooted : loose t ≡ false)
-    (mark : ℕ → ℕ) (k : Marks Intake t mark) where
-  pub all-states : (i : ℕ) → i < length (heads-of mark t) →
-      In i (states (marked-rows mark t (heads-of mark t) (heads-of mark t)))
-  unfolding compared redirect marked-row
-  all-states i l =
-      let (x, a, e) = place-onto (heads-of mark t) (heads-ascending Intake t climbs mark k) i l in
-      let (b, own) = in-heads mark (states (t .rows)) (states (t .rows)) x a in
-      ⊎-elim (at-zero x e) (at-row x e own) (in-states (t .rows) x b)
-    where
-      hs : List ℕ
-      hs = heads-of mark t
-
-      us : List Row
-      us = marked-rows mark t (heads-of mark t) (heads-of mark t)
-
-      at-zero : (x : ℕ) → place-among hs x ≡ i → x ≡ 0 → In i (states us)
-      at-zero x e z =
-          subst (λ (n : ℕ). In n (states us)) (sym (place-zero hs) ∙ ap (place-among hs) (sym z) ∙ e) (zero-state us)
-
-      at-row : (x : ℕ) → place-among hs x ≡ i → head-of mark t x ≡ x → (r : Row) × In r (t .rows) × (r .to ≡ x) →
-          In i (states us)
-      at-row x e own w =
-          let (r, j, f) = w in
-          let from = from-state t rooted r j in
-          let rows : redirect (head-of mark t) (rows-of (t .rows) (r .from))
-          ≡ redirect (head-of mark t) (rows-of (t .rows) (source-of mark t (r .from))) =
-          source-rows Intake t climbs mark k (r .from) from refl in
-          let led : In (r .terminal, head-of mark t (r .to))
-          (redirect (head-of mark t) (rows-of (t .rows) (r .from))) =
-          in-map (λ (q : ℕ × ℕ). (q .0, head-of mark t (q .1))) (rows-of (t .rows) (r .from)) (r .terminal, r .to)
-          (in-rows-of (t .rows) r j) in
-          let led′ = subst (λ (os : List (ℕ × ℕ)). In (r .terminal, head-of mark t (r .to)) os) rows led in
-          let (o, m, _, to) = redirect-in (head-of mark t) (rows-of (t .rows) (source-of mark t (r .from)))
-          (r .terminal, head-of mark t (r .to)) led′ in
-          let y-head = head-is-head Intake t climbs mark k (r .from) from in
-          let same-source : source-of mark t (head-of mark t (r .from)) ≡ source-of mark t (r .from) =
-          ap (highest-of mark 0 (states (t .rows))) (head-lowest Intake t climbs mark k (r .from) from .marked) in
-          let own-row = subst (λ (z : ℕ). In o (rows-of (t .rows) z)) (sym same-source) m in
-          let row = marked-in mark t hs hs (head-of mark t (r .from)) o y-head own-row in
-          let place : place-among hs (head-of mark t (o .1)) ≡ i =
-          ap (place-among hs) (sym to ∙ ap (head-of mark t) f ∙ own) ∙ e in
-          let new : Row = marked-row mark t hs (head-of mark t (r .from)) o in
-          subst (λ (n : ℕ). In n (states us)) place (to-state us new row)

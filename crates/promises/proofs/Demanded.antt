@@ -1,22 +1,21 @@
 -- Demand 3, for lists within bounds with at most 1,024 distinct beginnings. Assumes nothing.
-use mathlib.Core.Path.{_≡_, refl, sym, _∙_, ap, subst}
-use mathlib.Core.Option.{Option, none, some}
-use mathlib.Core.List.{List, [], _∷_, List·Memᴰ}
+use mathlib.Core.Path.{_≡_, refl, sym, _∙_}
+use mathlib.Core.List.{List, _∷_, List·Memᴰ}
 use Prim.Native.Nat.{ℕ, _≤_}
 use native.Mathlib.Omega.{arith}
 use lib.ListN.{length}
 use Rattle.paper.specs.declared.Mode.the-variants.{Intake}
-use Rattle.paper.specs.Rows.{Row, Table, find}
-use Rattle.paper.specs.Answers.{Ruling, accept, then, Made}
+use Rattle.paper.specs.Rows.{Table}
+use Rattle.paper.specs.Answers.{Ruling, then, Made}
 use Rattle.paper.specs.Shrink.{shrunk}
 use Rattle.paper.specs.Lists.{Opening, longest, all-beginnings, distinct}
 use Rattle.merging.specs.Reach.{reaches, reaches-from}
 use Rattle.merging.proofs.Promises.{shrunk-reaches, shrunk-intake-unlike, shrunk-prod0, shrunk-k, shrunk-order}
-use Rattle.merging.proofs.Promises.{shrunk-range, shrunk-rows-le}
+use Rattle.merging.proofs.Promises.{shrunk-range, shrunk-rows-le, shrunk-reached, shrunk-below}
 use Rattle.trees.specs.Reach.{view, reach}
 use Rattle.trees.specs.Bounds.{Bounded}
 use Rattle.trees.specs.Says.{Says}
-use Rattle.trees.specs.Chain.{chain, United-lists, Chained, united, Reordered}
+use Rattle.trees.specs.Chain.{United-lists, Chained, united, Reordered}
 use Rattle.trees.specs.Chain as chains
 use Rattle.trees.proofs.Paths.{view-by-steps}
 use Rattle.trees.proofs.Defined.{predict-defined}
@@ -45,7 +44,10 @@ shrunk-kept ls m u =
     record {
       one-number = u .one-number;
       longest-k = k;
-      unlike = rw (shrunk-prod0 Intake t) (shrunk-intake-unlike t (h .shaped) (h .held));
+      counted = shrunk-below Intake t (h .shaped);
+      reached = shrunk-reached t (h .ordered) (h .shaped) (h .held) (h .whole);
+      unlike = rw (shrunk-prod0 Intake t)
+          (shrunk-intake-unlike t (h .ordered) (h .shaped) (h .held) (h .whole));
       predicts = predict-defined ls s says k (shrunk-range Intake t (u .sound .ranged) (h .shaped))
           (shrunk-order Intake t (h .ordered) (h .shaped)) few;
     }

@@ -2,14 +2,15 @@
 -- 16,384 numbers; and what is promised of that.
 use Prim.Native.Nat.{ℕ, _≤_, _<_}
 use mathlib.Core.Path.{_≡_}
-use mathlib.Core.List.{List, [], _∷_}
+use mathlib.Core.List.{List, [], _∷_, List·Memᴰ}
 use lib.ListN.{length}
 use Rattle.paper.specs.declared.Mode.the-variants.{Intake}
-use Rattle.paper.specs.Rows.{signed, numbers}
+use Rattle.paper.specs.Rows.{signed, numbers, states}
 use Rattle.paper.specs.Answers.{Ruling, accept, refuse, then, Made}
 use Rattle.paper.specs.Shrink.{shrink, production-of, rows-of}
 use Rattle.paper.specs.Predict.{predict}
 use Rattle.paper.specs.Lists.{Opening, longest}
+use Rattle.merging.specs.Reach.{Reached}
 use Rattle.trees.specs.Says.{Stands, foretold}
 use Rattle.trees.specs.Chain.{chain, Conflict}
 
@@ -19,11 +20,15 @@ shrink-made m = shrink Intake (signed (m .table .prod0)) (m .table .k) (numbers 
 unfoldable pub calls : Opening → List Opening → Ruling Made
 calls l ls = then (chain l ls) shrink-made
 
--- The shrunk table: no two states have equal production and equal rows, and on any k or more tokens, in a stream whose
--- own k is no smaller, intake predict gives what the lists define.
+-- The shrunk table: its states are the numbers below the state count, each is reached, no two of them have equal
+-- production and equal rows, and on any k or more tokens, in a stream whose own k is no smaller, intake predict gives
+-- what the lists define.
 pub record Kept (ls : List Opening) (m : Made) : Type 0 where
   pub one-number : (σ : List ℕ) (p q : ℕ) → Stands ls σ p → Stands ls σ q → p ≡ q
   pub longest-k : m .table .k ≡ longest ls
+  pub counted : (i : ℕ) → List·Memᴰ i (states (m .table .rows)) → i < m .states
+  pub reached : (i : ℕ) → i < m .states → Reached (m .table .rows) i
+  -- over all numbers below the state count
   pub unlike : (i j : ℕ) → i < m .states → j < m .states →
       production-of (m .table .prod0) (m .table .rows) i ≡ production-of (m .table .prod0) (m .table .rows) j →
       rows-of (m .table .rows) i ≡ rows-of (m .table .rows) j → i ≡ j

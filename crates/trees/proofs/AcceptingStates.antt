@@ -20,9 +20,8 @@ use Rattle.trees.specs.Trees.{Treed}
 use Rattle.trees.specs.Unions.{Union, Unites, joined, full, at-odds}
 use Rattle.trees.specs.Accepting.{accepts, accepting-rows, accepting-states, Claimed, Claims}
 use Rattle.trees.specs.Accepting.{Apart, apart-nil, apart-cons}
-use Rattle.trees.proofs.Find.{find-in}
-use Rattle.laws.proofs.RowsRise.{RowsRise, rows-cons}
-use Rattle.trees.proofs.Rising.{not-before-itself}
+use Rattle.laws.proofs.RowsRise.{RowsRise, rows-cons, not-before-itself}
+use Rattle.laws.proofs.Find.{find-in}
 use Rattle.trees.proofs.Paths.{path, word, view-word, onward-inv}
 use Rattle.trees.proofs.Words.{join-claim, claim-left, claim-right}
 use Rattle.trees.proofs.Tree.{Tree, up, to-le, same-to}

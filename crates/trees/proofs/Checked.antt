@@ -14,9 +14,8 @@ use Rattle.paper.specs.Rows.{Row, Table}
 use Rattle.paper.specs.Checks.{any, rising, order, shape, loose, same-production, split}
 use Rattle.paper.specs.Checks.{rows-into, each-once, no-tree}
 use Rattle.trees.specs.Trees.{Treed}
-use Rattle.trees.proofs.Find.{find-in}
 use Rattle.laws.proofs.RowsRise.{RowsRise, rise-rising, rising-rise}
-use Rattle.trees.proofs.Rising.{in-find}
+use Rattle.laws.proofs.Find.{find-in, in-find}
 use Rattle.trees.proofs.Counted.{into-one, once-in, into-some, one-in, sum-once, sum-in}
 use Rattle.trees.proofs.Tree.{Tree, up, to-le, same-to, into}
 

@@ -13,8 +13,7 @@ use Rattle.laws.proofs.Tests.{Test, same, apart, test}
 use Rattle.laws.proofs.Every.{first-of, second-of}
 use Rattle.paper.specs.Rows.{Row}
 use Rattle.paper.specs.Checks.{rows-into, each-once}
-use Rattle.laws.proofs.RowsRise.{Before, RowsRise, rows-cons}
-use Rattle.trees.proofs.Rising.{not-before-itself}
+use Rattle.laws.proofs.RowsRise.{Before, RowsRise, rows-cons, not-before-itself}
 
 into-none : (n : ℕ) (rs : List Row) → ((x : Row) → In x rs → x .to ≡ n → ⊥) → rows-into rs n ≡ 0
 unfolding rows-into

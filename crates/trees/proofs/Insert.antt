@@ -6,12 +6,12 @@ use mathlib.Core.List.{List, [], _∷_, _++_, map, Memᴰ·append-left, Memᴰ·
 use Prim.Native.Nat.{ℕ}
 use borrow.Author.Tests.{eq-eqb, ne-eqb}
 use Rattle.laws.proofs.Members.{In, here, there}
-use Rattle.laws.proofs.RowsRise.{RowsRise}
+use Rattle.laws.proofs.RowsRise.{RowsRise, not-before-itself}
 use Rattle.paper.specs.Rows.{Row, Table}
 use Rattle.paper.specs.Checks.{before}
 use Rattle.paper.specs.Build.{insert, give}
 use Rattle.trees.proofs.Paint.{paint, give-rows}
-use Rattle.trees.proofs.Rising.{not-before-itself, before-last, after-last}
+use Rattle.trees.proofs.Rising.{before-last, after-last}
 use Rattle.trees.proofs.Tree.{Tree, same-to}
 
 -- ---- insert

@@ -7,13 +7,14 @@ use Prim.Native.Nat.{ℕ, suc, _+_, _≤_}
 use native.Mathlib.Omega.{arith}
 use lib.ListN.{length}
 use Rattle.laws.proofs.Members.{In, here, there}
+use Rattle.laws.proofs.Find.{find-in}
 use Rattle.paper.specs.declared.Mode.{Mode}
 use Rattle.paper.specs.Rows.{Row, Table, find}
 use Rattle.paper.specs.Answers.{Ruling, accept, refuse, then}
 use Rattle.paper.specs.Build.{insert, give}
 use Rattle.paper.specs.Unite.{taken, matched, United, take-row, take-rows}
 use Rattle.trees.specs.Views.{merge}
-use Rattle.trees.proofs.Find.{find-in, length-insert}
+use Rattle.trees.proofs.Find.{length-insert}
 use Rattle.trees.proofs.Paint.{length-give}
 use Rattle.trees.proofs.Fits.{Row-fits, Rows-fit, Fits, fits-insert, fits-give, root-give}
 use Rattle.trees.proofs.Taken.{Met, met, unmet, taken-met, merge-fits}

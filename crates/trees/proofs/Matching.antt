@@ -8,12 +8,12 @@ use Prim.Native.Nat.{ℕ}
 use native.Mathlib.Omega.{arith}
 use native.Mathlib.Decide.{ℕ-discrete}
 use borrow.Author.Tests.{eq-eqb, ne-eqb}
+use Rattle.laws.proofs.Find.{is-for-self, is-for-other, find-left, find-right}
 use Rattle.paper.specs.declared.Mode.{Mode}
 use Rattle.paper.specs.Rows.{Row, Table, find}
 use Rattle.paper.specs.Unite.{United, matched}
 use Rattle.trees.specs.Reach.{Seat, Finder, sit, Word, said}
 use Rattle.trees.specs.Views.{join}
-use Rattle.trees.proofs.Find.{is-for-self, is-for-other, find-left, find-right}
 use Rattle.trees.proofs.Paths.{path, word, onward-some, onward-inv, Branching}
 use Rattle.trees.proofs.Grown.{Grown, grown-tree, grown-keeps, grown-here, grown-other, row-at}
 use Rattle.trees.proofs.Tree.{Tree}

@@ -12,9 +12,9 @@ use lib.Dec.{eqb}
 use Rattle.laws.proofs.Members.{In, here, where-in}
 use Rattle.laws.proofs.Tests.{Test, same, apart, test}
 use Rattle.paper.specs.Rows.{Row, find}
-use Rattle.trees.proofs.Find.{find-in, find-left}
-use Rattle.laws.proofs.RowsRise.{RowsRise}
-use Rattle.trees.proofs.Rising.{before-last, after-last, rising-front, in-find, not-before-itself}
+use Rattle.laws.proofs.RowsRise.{RowsRise, not-before-itself}
+use Rattle.laws.proofs.Find.{find-in, find-left, in-find}
+use Rattle.trees.proofs.Rising.{before-last, after-last, rising-front}
 use Rattle.trees.proofs.Tree.{Tree, found, up, to-le, into}
 
 -- r may follow the rows D.

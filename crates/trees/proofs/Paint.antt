@@ -10,8 +10,8 @@ use lib.Dec.{eqb}
 use Rattle.laws.proofs.Tests.{never}
 use Rattle.paper.specs.Rows.{Row, Table, find}
 use Rattle.paper.specs.Build.{give}
-use Rattle.trees.proofs.Find.{is-for}
 use Rattle.laws.proofs.RowsRise.{Before, RowsRise, rows-nil, rows-cons}
+use Rattle.laws.proofs.Find.{is-for}
 
 -- A row into the state s takes the production q.
 unfoldable pub paint : ℕ → Option ℕ → Row → Row

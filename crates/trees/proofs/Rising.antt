@@ -1,4 +1,4 @@
--- Rows that rise by (from, terminal): `insert` keeps them rising, each is found, and a part of them rises.
+-- Rows that rise by (from, terminal): `insert` keeps them rising, and a part of them rises.
 -- Assumes nothing.
 use mathlib.Core.Path.{_≡_, refl, sym, _∙_, subst}
 use mathlib.Core.Logic.{⊎-elim, _⊎_, inl, inr}
@@ -10,11 +10,12 @@ use native.Mathlib.Omega.{arith}
 use lib.Dec.{eqb, ltb}
 use Rattle.laws.proofs.Members.{In, here, there, nowhere, where-in}
 use Rattle.laws.proofs.Tests.{Test, same, apart, test, Below, is-below, not-below, below?, never}
-use Rattle.laws.proofs.RowsRise.{Before, RowsRise, rows-nil, rows-cons, rise-rising, rising-rise}
+use Rattle.laws.proofs.RowsRise.{Before, RowsRise, rows-nil, rows-cons, before-trans, rise-rising, rising-rise}
+pub use Rattle.laws.proofs.RowsRise.{not-before-itself}
+use Rattle.laws.proofs.Find.{is-for, is-for-self}
 use Rattle.paper.specs.Rows.{Row, find}
 use Rattle.paper.specs.Checks.{before, rising}
 use Rattle.paper.specs.Build.{insert}
-use Rattle.trees.proofs.Find.{is-for, is-for-self, is-for-other}
 
 -- Names for the shared laws.
 abbrev pub Rising : List Row → Type 0
@@ -25,16 +26,6 @@ rising-true rs h = rise-rising rs h
 
 pub true-rising : (rs : List Row) → rising rs ≡ true → Rising rs
 true-rising rs e = rising-rise rs e
-
-pub before-trans : (a b c : Row) → Before a b → Before b c → Before a c
-before-trans a b c (inl p) (inl q) = inl (omega arith)
-before-trans a b c (inl p) (inr q) = inl (omega (arith, q .0))
-before-trans a b c (inr p) (inl q) = inl (omega (arith, p .0))
-before-trans a b c (inr p) (inr q) = inr (p .0 ∙ q .0, omega (arith, p .1, q .1))
-
-pub not-before-itself : (a b : Row) → Before a b → (b .from ≡ a .from) × (b .terminal ≡ a .terminal) → ⊥
-not-before-itself a b (inl p) q = omega (arith, q .0)
-not-before-itself a b (inr p) q = omega (arith, p .1, q .1)
 
 -- The three ways two rows can stand, and what the test says.
 pub data Order (a b : Row) (t : Bool) : Type 0 where
@@ -98,19 +89,6 @@ rising-insert r (y ∷ ys) (rows-cons h s) e =
     go (first p q) false k l ih = rw q (rows-cons {r = r} {rs = y ∷ ys} (with-r p) (rows-cons h s))
     go (after p q) false k l ih = rw q (rows-cons {r = y} {rs = insert r ys} (with-y p) (ih l))
     go (level p q) false k l ih = absurd (false≢true (sym k ∙ taken p))
-
--- ---- of rising rows each is found
-pub in-find : (rs : List Row) (r : Row) → RowsRise rs → In r rs → find rs (r .from) (r .terminal) ≡ some r
-unfolding find
-in-find [] r h i = absurd (nowhere i)
-in-find (x ∷ rs) r (rows-cons h k) i = go (where-in i) (in-find rs r k)
-  where
-    found : Row → Type 0
-    found z = cond (is-for x (z .from) (z .terminal)) (some x) (find rs (z .from) (z .terminal)) ≡ some z
-
-    go : (r ≡ x) ⊎ In r rs → (In r rs → find rs (r .from) (r .terminal) ≡ some r) → found r
-    go (inl e) ih = subst found (sym e) (rw is-for-self)
-    go (inr j) ih = rw (is-for-other x (r .from) (r .terminal) (not-before-itself x r (h r j))) (ih j)
 
 -- ---- a part of rising rows
 pub before-last : (D : List Row) (r : Row) (rest : List Row) → RowsRise (D ++ r ∷ rest) →

@@ -11,9 +11,10 @@ use Rattle.laws.proofs.Tests.{Test, same, apart, test, never}
 use Rattle.paper.specs.Rows.{Row, Table, find}
 use Rattle.paper.specs.Build.{insert, give}
 use Rattle.trees.specs.Reach.{Seat, Finder}
-use Rattle.trees.proofs.Find.{find-in, find-nil, length-insert, find-insert-here, find-insert-other}
+use Rattle.trees.proofs.Find.{length-insert, find-insert-here, find-insert-other}
 use Rattle.laws.proofs.RowsRise.{RowsRise, rows-nil}
-use Rattle.trees.proofs.Rising.{rising-insert, in-find}
+use Rattle.laws.proofs.Find.{find-in, find-nil, in-find}
+use Rattle.trees.proofs.Rising.{rising-insert}
 use Rattle.trees.proofs.Paint.{paint, painted, find-paint, rising-paint, give-rows}
 use Rattle.trees.proofs.Paths.{path, Branching, Capped, low, leaf}
 use Rattle.trees.proofs.Grown.{Grown, grown-tree, grown-cap}

@@ -10,6 +10,7 @@ use lib.Seq.{append-snoc}
 use lib.Dec.{ltb}
 use borrow.Author.Tests.{ltb-true, ltb-false}
 use Rattle.laws.proofs.Tests.{never}
+use Rattle.laws.proofs.Find.{find-nil, find-left}
 use Rattle.paper.specs.declared.Mode.{Mode}
 use Rattle.paper.specs.Rows.{Row, Table, find}
 use Rattle.paper.specs.Answers.{Ruling, accept, refuse, then, Made}
@@ -18,7 +19,6 @@ use Rattle.paper.specs.Unite.{taken, root, united-k, matched, United, take-row,
 use Rattle.trees.specs.Reach.{Seat, Finder, seat-of, onward, Word, said}
 use Rattle.trees.specs.Views.{merge, join, seen}
 use Rattle.trees.specs.Unions.{as-seen, Agreed}
-use Rattle.trees.proofs.Find.{find-nil, find-left}
 use Rattle.trees.proofs.Paths.{path, word, onward-some, onward-none, path-left}
 use Rattle.trees.proofs.Grown.{grown-here}
 use Rattle.trees.proofs.Tree.{Tree}
