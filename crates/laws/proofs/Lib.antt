@@ -2,6 +2,7 @@
 pub mod Tests
 pub mod Every
 pub mod Members
+pub mod Productions
 pub mod RowsRise
 pub mod Find
 pub mod RowNumbers

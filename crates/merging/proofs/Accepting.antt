@@ -2,16 +2,16 @@
 use mathlib.Core.Path.{_≡_, refl, sym, _∙_, ap}
 use mathlib.Core.Logic.{⊎-elim, _⊎_, inl, inr}
 use mathlib.Core.Bool.{Bool, true, false, cond, false≢true}
-use mathlib.Core.Option.{none, some}
+use mathlib.Core.Option.{some}
 use mathlib.Core.List.{List, [], _∷_}
 use Prim.Native.Nat.{ℕ, _≤_}
 use native.Mathlib.Omega.{arith}
 use lib.Dec.{eqb}
 use borrow.Author.Tests.{eq-eqb, ne-eqb}
 use Rattle.laws.proofs.Members.{In, here, there, nowhere, where-in}
+use Rattle.laws.proofs.Productions.{same-production-eq, same-production-refl}
 use Rattle.paper.specs.Shrink.{Node, accepts, lowest, highest-rows, node-production}
 use Rattle.merging.specs.Classes.{Rising, rise-cons}
-use Rattle.merging.proofs.Equal.{same-production-eq, same-production-refl}
 
 pub accepts-yes : (q : ℕ) (n : Node) → n .production ≡ some q → accepts q n ≡ true
 unfolding accepts

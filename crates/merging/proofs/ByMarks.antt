@@ -1,14 +1,14 @@
 -- Merging is the quotient by marks. Assumes of the nodes that states rise, rows lead to states of the list and
 -- some rank falls along them; and of the marks that two nodes have one mark exactly when their productions and,
 -- by marks, their rows are equal.
-use mathlib.Core.Path.{_≡_, refl, sym, _∙_, ap, subst}
-use mathlib.Core.List.{List, [], _∷_, map}
-use Prim.Native.Nat.{ℕ, _≤_, _<_}
+use mathlib.Core.Path.{_≡_, refl, sym, _∙_, ap}
+use mathlib.Core.List.{List}
+use Prim.Native.Nat.{ℕ, _≤_}
 use lib.ListN.{length}
-use Rattle.laws.proofs.Members.{In, in-map, map-in}
+use Rattle.laws.proofs.Members.{In}
 use Rattle.paper.specs.Shrink.{Node, redirect, lead, merge-all}
-use Rattle.merging.specs.Numbers.{Ascending, asc-nil, asc-cons}
-use Rattle.merging.specs.Classes.{Rising, rise-cons, quotient, Class, Reduced, Grounded}
+use Rattle.merging.specs.Numbers.{Ascending}
+use Rattle.merging.specs.Classes.{quotient, Class, Reduced, Grounded}
 use Rattle.merging.specs.Marks.{lowest-of}
 use Rattle.merging.proofs.Equal.{equal-eq}
 use Rattle.merging.proofs.Redirect.{redirect-over}
@@ -74,24 +74,3 @@ module _ (ns : List Node) (rank : ℕ → ℕ) (g : Grounded ns rank) (mark : �
   pub by-marks-among : (turns : ℕ) → length ns ≤ turns →
       merge-all turns ns ≡ quotient (λ s. lowest-of mark ss (mark s)) ns
   by-marks-among turns enough = merging-is ns rank g turns enough c marks-class marks-reduced
-
-states-ascend : (ns : List Node) → Rising ns → Ascending (map (λ (n : Node). n .state) ns)
-states-ascend [] r = asc-nil
-states-ascend (n ∷ ns) (rise-cons h r) = asc-cons
-    (λ x i. let (m, j, e) = map-in (λ (z : Node). z .state) ns x i in subst (λ (z : ℕ). n .state < z) (sym e) (h m j))
-    (states-ascend ns r)
-
--- One node for each mark, the lowest state of the mark, its rows led into the lowest states of their marks.
-pub by-marks : (ns : List Node) (rank mark : ℕ → ℕ) → Grounded ns rank → NodeMarks ns mark →
-    (turns : ℕ) → length ns ≤ turns →
-    merge-all turns ns ≡ quotient (λ s. lowest-of mark (map (λ (n : Node). n .state) ns) (mark s)) ns
-by-marks ns rank mark g k turns enough =
-    let a = states-ascend ns (g .rises) in
-    let sub : (n : Node) → In n ns → In (n .state) (map (λ (n : Node). n .state) ns) =
-    λ n i. in-map (λ (z : Node). z .state) ns n i in
-    by-marks-among ns rank g mark k (map (λ (n : Node). n .state) ns) a sub
-    (λ n i.
-    let l = lowest mark (map (λ (n : Node). n .state) ns) a (n .state) (mark (n .state)) (sub n i) refl in
-    let (m, j, e) = map-in (λ (z : Node). z .state) ns _ (l .is-in) in
-    (m, j, sym e))
-    turns enough

@@ -10,22 +10,11 @@ use native.Mathlib.Omega.{arith}
 use lib.Dec.{eqb}
 use borrow.Author.Tests.{eq-eqb, eqb-true}
 use Rattle.laws.proofs.Tests.{never}
+use Rattle.laws.proofs.Productions.{same-production-eq, same-production-refl}
 use Rattle.laws.proofs.Members.{In, here, there, nowhere, where-in}
 use Rattle.paper.specs.Checks.{same-production}
 use Rattle.paper.specs.Shrink.{Node, same-rows, equal, twin, twins}
 use Rattle.merging.specs.Classes.{Rising, rise-cons, Reduced}
-
-pub same-production-eq : (x y : Option ℕ) → same-production x y ≡ true → x ≡ y
-unfolding same-production
-same-production-eq none none e = refl
-same-production-eq none (some b) e = absurd (false≢true e)
-same-production-eq (some a) none e = absurd (false≢true e)
-same-production-eq (some a) (some b) e = ap some (eqb-true a b e)
-
-pub same-production-refl : (x : Option ℕ) → same-production x x ≡ true
-unfolding same-production
-same-production-refl none = refl
-same-production-refl (some a) = eq-eqb a a refl
 
 same-rows-eq : (x y : List (ℕ × ℕ)) → same-rows x y ≡ true → x ≡ y
 unfolding same-rows

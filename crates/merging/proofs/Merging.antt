@@ -129,9 +129,3 @@ merge-all-ends (suc turns) ns l = go (twins ns) refl (merge-all-ends turns)
 
 pub merge-all-reduced : (turns : ℕ) (ns : List Node) → length ns ≤ turns → Reduced (merge-all turns ns)
 merge-all-reduced turns ns l = no-twins (merge-all turns ns) (merge-all-ends turns ns l)
-
--- merging what has no equal nodes changes nothing
-pub merge-all-stays : (turns : ℕ) (ns : List Node) → twins ns ≡ none → merge-all turns ns ≡ ns
-unfolding merge-all
-merge-all-stays zero ns e = refl
-merge-all-stays (suc turns) ns e = rw (e, merge-all)

@@ -3,17 +3,16 @@
 use mathlib.Core.Path.{_≡_, refl, sym, _∙_, ap, ap₂, subst}
 use mathlib.Core.Logic.{⊎-elim, inl, inr}
 use mathlib.Core.Bool.{cond}
-use mathlib.Core.Option.{some}
-use mathlib.Core.List.{List, [], _∷_, map, List·Memᴰ·append-cases, Memᴰ·append-left, Memᴰ·append-right}
+use mathlib.Core.List.{List, [], _∷_, map, List·Memᴰ·append-cases}
 use Prim.Native.Nat.{ℕ, suc, _+_, _≤_, _<_}
 use native.Mathlib.Omega.{arith}
 use lib.ListN.{length, length-append, length-map}
 use lib.Dec.{eqb}
 use borrow.Author.Tests.{ne-eqb}
 use Rattle.laws.proofs.Tests.{Test, same, apart, test}
-use Rattle.laws.proofs.Members.{In, here, there, nowhere, where-in, in-map, map-in}
+use Rattle.laws.proofs.Members.{In, here, there, nowhere, map-in}
 use Rattle.laws.proofs.RowsRise.{Before, RowsRise, rows-nil, rows-cons, rise-append}
-use Rattle.paper.specs.Rows.{Row, Table, states}
+use Rattle.paper.specs.Rows.{Row, Table}
 use Rattle.paper.specs.Shrink.{rows-of}
 use Rattle.merging.specs.Numbers.{Ascending, asc-cons}
 use Rattle.merging.specs.Marks.{source-of, place-among, marked-row, marked-rows}
@@ -34,19 +33,6 @@ module _ (mark : ℕ → ℕ) (t : Table) (hs : List ℕ) where
       (λ j. let (o, l, e) = map-in (marked-row mark t hs x) (rows-of (t .rows) (h x)) r j in (x, here, o, l, e))
       (λ j. let (s, k, o, l, e) = in-marked xs r j in (s, there k, o, l, e))
       (List·Memᴰ·append-cases (map (marked-row mark t hs x) (rows-of (t .rows) (h x))) i)
-
-  pub marked-in : (xs : List ℕ) (s : ℕ) (o : ℕ × ℕ) → In s xs → In o (rows-of (t .rows) (h s)) →
-      In (marked-row mark t hs s o) (marked-rows mark t hs xs)
-  unfolding marked-rows
-  marked-in [] s o i j = absurd (nowhere i)
-  marked-in (x ∷ xs) s o i j = ⊎-elim
-      (λ e. Memᴰ·append-left (marked-rows mark t hs xs)
-      (subst
-      (λ (z : ℕ). In (marked-row mark t hs s o) (map (marked-row mark t hs z) (rows-of (t .rows) (h z))))
-      e
-      (in-map (marked-row mark t hs s) (rows-of (t .rows) (h s)) o j)))
-      (λ k. Memᴰ·append-right (map (marked-row mark t hs x) (rows-of (t .rows) (h x))) (marked-in xs s o k j))
-      (where-in i)
 
 -- ---- they rise
 

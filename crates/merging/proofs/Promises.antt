@@ -13,6 +13,7 @@ use Rattle.laws.proofs.Tests.{Test, same, apart, test}
 use Rattle.laws.proofs.Every.{both, first-of, second-of, any-false}
 use Rattle.laws.proofs.Members.{In, in-map}
 use Rattle.laws.proofs.RowsRise.{rise-rising, rising-rise}
+use Rattle.laws.proofs.Productions.{same-production-refl}
 use Rattle.paper.specs.declared.Mode.{Mode}
 use Rattle.paper.specs.declared.Mode.the-variants.{Intake}
 use Rattle.paper.specs.Rows.{Row, Table, states}
@@ -24,7 +25,6 @@ use Rattle.merging.specs.Classes.{Reduced}
 use Rattle.merging.specs.Marks.{head-of, source-of, heads-of, place-of, lowest-of, place-among}
 use Rattle.merging.specs.Marks.{marked, marked-row, marked-rows, Marks}
 use Rattle.merging.specs.Reach.{reaches, reaches-from, Reached}
-use Rattle.merging.proofs.Equal.{same-production-refl}
 use Rattle.merging.proofs.Places.{place-within}
 use Rattle.merging.proofs.Merging.{merge-all-reduced}
 use Rattle.merging.proofs.Gathered.{gathered-le}

@@ -2,7 +2,6 @@
 use mathlib.Core.Path.{_≡_, refl, sym, ap}
 use mathlib.Core.List.{List, [], _∷_, nil≢cons, head-eq-of-cons-eq, tail-eq-of-cons-eq}
 use Prim.Native.Nat.{ℕ}
-use lib.ListN.{length, length-map}
 use Rattle.laws.proofs.Members.{In, here, there, map-in}
 use Rattle.paper.specs.Shrink.{redirect}
 
@@ -24,10 +23,6 @@ unfolding redirect
 redirect-in f os o i =
     let (p, j, e) = map-in (λ (r : ℕ × ℕ). (r .0, f (r .1))) os o i in
     (p, j, ap (λ (q : ℕ × ℕ). q .0) e, ap (λ (q : ℕ × ℕ). q .1) e)
-
-pub length-redirect : (f : ℕ → ℕ) (os : List (ℕ × ℕ)) → length (redirect f os) ≡ length os
-unfolding redirect
-length-redirect f os = length-map os (λ (r : ℕ × ℕ). (r .0, f (r .1)))
 
 pub same-redirect : (c d : ℕ → ℕ) (os : List (ℕ × ℕ)) →
     ((o : ℕ × ℕ) → In o os → c (o .1) ≡ d (o .1)) → redirect c os ≡ redirect d os

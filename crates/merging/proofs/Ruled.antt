@@ -11,12 +11,12 @@ use borrow.Author.Tests.{eq-eqb, eqb-true, leb-false, not-false}
 use Rattle.laws.proofs.Tests.{Test, same, apart, test}
 use Rattle.laws.proofs.Every.{any-in, any-some}
 use Rattle.laws.proofs.Members.{In, here, there, nowhere, where-in, in-map, map-in}
+use Rattle.laws.proofs.Productions.{same-production-eq}
 use Rattle.paper.specs.Rows.{Row, Table, states}
 use Rattle.paper.specs.Checks.{shape, loose, split, same-production, any}
 use Rattle.paper.specs.Shrink.{Node, production-of, rows-of, nodes}
 use Rattle.merging.specs.Numbers.{Ascending, asc-cons}
 use Rattle.merging.specs.Classes.{Rising, rise-nil, rise-cons, Climbing}
-use Rattle.merging.proofs.Equal.{same-production-eq}
 use Rattle.merging.proofs.States.{states-ascend, zero-state, to-state, rows-of-in, rows-of-state}
 
 -- ---- nodes

@@ -104,10 +104,6 @@ in-states (x ∷ rs) s i = ⊎-elim
     (λ j. ⊎-elim (λ e. inl e) (λ k. inr (k .0, there (k .1), k .2)) (in-states rs s j))
     (in-with (x .to) (states rs) s i)
 
--- and no other number
-pub no-state : (rs : List Row) (s : ℕ) → (s ≡ 0 → ⊥) → ((r : Row) → In r rs → r .to ≡ s → ⊥) → In s (states rs) → ⊥
-no-state rs s off none-of i = ⊎-elim (λ e. off e) (λ w. none-of (w .0) (w .1) (w .2)) (in-states rs s i)
-
 pub states-length : (rs : List Row) → length (states rs) ≤ suc (length rs)
 unfolding states
 states-length [] = omega arith
@@ -133,26 +129,6 @@ rows-of-in (r ∷ rs) s o i = go (test (r .from) s) i (rows-of-in rs s o)
         (In o (rows-of rs s) → Found rs) → Found (r ∷ rs)
     go (same h e) j ih = ⊎-elim (λ k. (r, here, h, k)) (λ k. later (ih k)) (where-in (rw e at j))
     go (apart h e) j ih = later (ih (rw e at j))
-
-pub in-rows-of : (rs : List Row) (r : Row) → In r rs → In (r .terminal, r .to) (rows-of rs (r .from))
-unfolding rows-of
-in-rows-of [] r i = absurd (nowhere i)
-in-rows-of (x ∷ rs) r i = go (test (x .from) (r .from)) (where-in i) (in-rows-of rs r)
-  where
-    o : ℕ × ℕ
-    o = (r .terminal, r .to)
-
-    s : ℕ
-    s = r .from
-
-    go : Test (x .from) s (eqb (x .from) s) → (r ≡ x) ⊎ In r rs → (In r rs → In o (rows-of rs s)) →
-        In o (cond (eqb (x .from) s) ((x .terminal, x .to) ∷ rows-of rs s) (rows-of rs s))
-    go (same h e) (inl j) ih =
-        let z : o ≡ (x .terminal, x .to) = ap (λ (y : Row). (y .terminal, y .to)) j in
-        rw e (List·Memᴰ·head z)
-    go (same h e) (inr j) ih = rw e (there (ih j))
-    go (apart h e) (inl j) ih = absurd (h (ap (λ (y : Row). y .from) (sym j)))
-    go (apart h e) (inr j) ih = rw e (ih j)
 
 -- a row of a state leads to a state
 pub rows-of-state : (rs : List Row) (s : ℕ) (o : ℕ × ℕ) → In o (rows-of rs s) → In (o .1) (states rs)

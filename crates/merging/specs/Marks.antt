@@ -3,7 +3,7 @@ use mathlib.Core.Path.{_≡_}
 use mathlib.Core.Bool.{Bool, true, false, cond}
 use mathlib.Core.Option.{Option, none, some}
 use mathlib.Core.List.{List, [], _∷_, _++_, map, List·Memᴰ}
-use Prim.Native.Nat.{ℕ, suc, _≤_}
+use Prim.Native.Nat.{ℕ, suc}
 use lib.ListN.{length}
 use lib.Dec.{eqb, ltb}
 use Rattle.paper.specs.declared.Mode.{Mode}
@@ -91,13 +91,6 @@ pub record Marks (mode : Mode) (t : Table) (mark : ℕ → ℕ) : Type 0 where
   pub one : (a b : ℕ) → List·Memᴰ a (states (t .rows)) → List·Memᴰ b (states (t .rows)) →
       mark a ≡ mark b → Alike mode t mark a b
   pub two : (a b : ℕ) → List·Memᴰ a (states (t .rows)) → List·Memᴰ b (states (t .rows)) →
-      Alike mode t mark a b → mark a ≡ mark b
-
--- Marks of the states from n on, as one pass from the highest state down sets them.
-pub record MarksFrom (n : ℕ) (mode : Mode) (t : Table) (mark : ℕ → ℕ) : Type 0 where
-  pub one : (a b : ℕ) → List·Memᴰ a (states (t .rows)) → List·Memᴰ b (states (t .rows)) → n ≤ a → n ≤ b →
-      mark a ≡ mark b → Alike mode t mark a b
-  pub two : (a b : ℕ) → List·Memᴰ a (states (t .rows)) → List·Memᴰ b (states (t .rows)) → n ≤ a → n ≤ b →
       Alike mode t mark a b → mark a ≡ mark b
 
 -- Those of some rising numbers that are below s.

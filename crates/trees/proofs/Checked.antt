@@ -1,15 +1,15 @@
 -- The checks 3 to 7 pass exactly the trees. Assumes nothing.
 use mathlib.Core.Path.{_≡_, refl, sym, _∙_, ap}
 use mathlib.Core.Bool.{true, false, not, _&&_}
-use mathlib.Core.Option.{Option, none, some}
 use Prim.Native.Nat.{ℕ, zero, suc, _≤_, _<_}
 use native.Mathlib.Omega.{arith}
 use lib.ListN.{length}
 use lib.Dec.{eqb, leb}
 use borrow.Author.Tests.{eq-eqb, lt-leb, leb-false, not-false}
 use Rattle.laws.proofs.Members.{In}
-use Rattle.laws.proofs.Tests.{Test, same, apart, test, never}
+use Rattle.laws.proofs.Tests.{Test, same, apart, test}
 use Rattle.laws.proofs.Every.{both, any-true, any-false, any-in}
+use Rattle.laws.proofs.Productions.{same-production-refl}
 use Rattle.paper.specs.Rows.{Row, Table}
 use Rattle.paper.specs.Checks.{any, rising, order, shape, loose, same-production, split}
 use Rattle.paper.specs.Checks.{rows-into, each-once, no-tree}
@@ -18,13 +18,6 @@ use Rattle.laws.proofs.RowsRise.{RowsRise, rise-rising, rising-rise}
 use Rattle.laws.proofs.Find.{find-in, in-find}
 use Rattle.trees.proofs.Counted.{into-one, once-in, into-some, one-in, sum-once, sum-in}
 use Rattle.trees.proofs.Tree.{Tree, up, to-le, same-to, into}
-
-same-production-self : (x y : Option ℕ) → x ≡ y → same-production x y ≡ true
-unfolding same-production
-same-production-self none none e = refl
-same-production-self none (some b) e = absurd (never e)
-same-production-self (some a) none e = absurd (never (sym e))
-same-production-self (some a) (some b) e = eq-eqb a b (cc)
 
 -- ---- a tree passes
 module _ (t : Table) (tr : Tree (t .rows)) where
@@ -59,7 +52,7 @@ module _ (t : Table) (tr : Tree (t .rows)) where
           eqb (x .to) (r .to) && not (same-production (x .production) (r .production)) ≡ false
       go (same k e) =
           let z : x .production ≡ r .production = ap (λ (y : Row). y .production) (same-to (t .rows) tr x r j i k) in
-          rw (e, same-production-self (x .production) (r .production) z)
+          rw (e, z, same-production-refl (r .production))
       go (apart k e) = rw e
 
   pub tree-passes : Treed t

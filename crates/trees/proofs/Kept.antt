@@ -3,7 +3,7 @@
 use mathlib.Core.Path.{_≡_, refl, _∙_}
 use mathlib.Core.Option.{Option, none, some}
 use mathlib.Core.List.{List, [], _∷_}
-use Prim.Native.Nat.{ℕ, suc, _+_, _≤_}
+use Prim.Native.Nat.{ℕ, suc, _≤_}
 use native.Mathlib.Omega.{arith}
 use lib.ListN.{length}
 use Rattle.laws.proofs.Members.{In, here, there}
@@ -107,39 +107,6 @@ keeps-rows mode n rs u l =
     ))
     (λ t x r i p q. omega (arith, p, length-give (x .to) (merge mode (x .production) (r .production)) t))
     rs u l (λ r i. tt)
-
--- at most one row more for each row taken
-pub keeps-most : (mode : Mode) (rs : List Row) (n : ℕ) (u : United) → length (u .table .rows) ≤ n →
-    Keeps (λ t. length (t .rows) ≤ n + length rs) (take-rows mode u rs)
-unfolding take-rows
-keeps-most mode [] n u l = kept {u = u} (omega arith)
-keeps-most mode (r ∷ rs) n u l =
-    go (row-keeps mode (λ t. length (t .rows) ≤ n) (λ t. length (t .rows) ≤ suc n) (λ x. Unit)
-    (λ t x s p q. omega (
-      arith,
-      p,
-      length-insert (record {
-        from = s;
-        terminal = x .terminal;
-        to = suc (length (t .rows));
-        production = x .production;
-      }) (t .rows),
-    ))
-    (λ t x y i p q. omega (arith, p, length-give (x .to) (merge mode (x .production) (y .production)) t))
-    u r (find (u .table .rows) (matched (u .matches) (r .from)) (r .terminal)) refl l tt)
-    (keeps-most mode rs (suc n))
-  where
-    wider : {g : Ruling United} → Keeps (λ t. length (t .rows) ≤ suc n + length rs) g →
-        Keeps (λ t. length (t .rows) ≤ n + suc (length rs)) g
-    wider (kept {u = v} p) = kept {u = v} (omega arith)
-    wider off = off
-
-    go : {g : Ruling United} → Keeps (λ t. length (t .rows) ≤ suc n) g →
-        ((v : United) → length (v .table .rows) ≤ suc n →
-        Keeps (λ t. length (t .rows) ≤ suc n + length rs) (take-rows mode v rs)) →
-        Keeps (λ t. length (t .rows) ≤ n + suc (length rs)) (then g (λ v. take-rows mode v rs))
-    go (kept {u} p) ih = wider (ih u p)
-    go off ih = off
 
 pub keeps-fits : (mode : Mode) (rs : List Row) (u : United) → Fits (u .table) → Rows-fit rs →
     Keeps Fits (take-rows mode u rs)

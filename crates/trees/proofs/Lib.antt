@@ -6,7 +6,6 @@ pub mod Paths
 pub mod Grown
 pub mod Given
 pub mod Tree
-pub mod Insert
 -- the checks
 pub mod Counted
 pub mod Checked
@@ -15,7 +14,6 @@ pub mod Fits
 pub mod Words
 pub mod Built
 pub mod BuildSound
-pub mod Walk
 -- unite
 pub mod Order
 pub mod Took
@@ -24,7 +22,6 @@ pub mod Matching
 pub mod Kept
 pub mod United
 pub mod UniteSound
-pub mod Matches
 -- calls
 pub mod Accepted
 pub mod Calls

@@ -62,6 +62,3 @@ rising-paint s q [] h = rows-nil
 rising-paint s q (r ∷ rs) (rows-cons h k) = rows-cons
     (λ x i. let (y, j, e) = Memᴰ·of-map (paint s q) rs i in subst (λ (z : Row). Before (paint s q r) z) e (h y j))
     (rising-paint s q rs k)
-
-pub rising-give : (s : ℕ) (q : Option ℕ) (t : Table) → RowsRise (t .rows) → RowsRise (give s q t .rows)
-rising-give s q t h = rw give-rows (rising-paint s q (t .rows) h)

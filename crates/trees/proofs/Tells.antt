@@ -194,10 +194,3 @@ tells-says t l ls filled tells σ = go (begins-some (l ∷ ls) σ) refl (view t 
     go true e (some x) f = f ∙ word x (stands-under (l ∷ ls) σ) f refl
     go false e none f = f
     go false e (some x) f = absurd (false≢true (sym e ∙ begun x f))
-
--- Build's view says what its list says.
-pub built-says : (q : ℕ) (σs : List (List ℕ)) → 0 < length σs →
-    Says (built q σs) (record { production = q; strings = σs } ∷ [])
-built-says q [] h = absurd (omega arith)
-built-says q (σ ∷ σs) h =
-    tells-says (built q (σ ∷ σs)) (record { production = q; strings = σ ∷ σs }) [] h (tells-built q σ σs)
