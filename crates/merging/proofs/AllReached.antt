@@ -87,12 +87,9 @@ module _ (t : Table) (ordered : order t ≡ false) (climbs : shape t ≡ false) 
           Option·map (λ (x : Row). (x .to, x .production)) o ≡ some (seat r) →
           (q : Row) × (find us (place-of mark t (r .from)) (r .terminal) ≡ some q) × (q .to ≡ place-of mark t (r .to))
       go none e z = absurd (never z)
-      go (some q) e z = (
-        q,
-        e,
-        ap (λ (w : ℕ × Option ℕ). w .0)
-            (Option·some-injective (q .to, q .production) (seat r) z),
-      )
+      go (some q) e z =
+          let same = Option·some-injective (q .to, q .production) (seat r) z in
+          (q, e, ap (λ (w : ℕ × Option ℕ). w .0) same)
 
   place-reached : (fuel s : ℕ) → s < fuel → In s (states (t .rows)) → Reached us (place-of mark t s)
   place-reached zero s l i = absurd (omega arith)

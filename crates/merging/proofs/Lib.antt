@@ -23,6 +23,7 @@ pub mod Loops
 pub mod Output
 pub mod Fits
 pub mod Find
+pub mod HeadRows
 pub mod Reached
 pub mod AllReached
 pub mod Unlike

@@ -38,7 +38,8 @@ use Rattle.merging.proofs.Output.{in-marked, marked-rise, marked-length
 use Rattle.merging.proofs.Fits.{marked-fit}
 use Rattle.merging.proofs.Reached.{same-from}
 use Rattle.merging.proofs.AllReached.{reached-state, all-reached}
-use Rattle.merging.proofs.Unlike.{into-head, head-at, states-unlike}
+use Rattle.merging.proofs.HeadRows.{into-head}
+use Rattle.merging.proofs.Unlike.{head-at, states-unlike}
 
 -- what holds of the table of any marks holds of the shrunk table
 by-any-marks : (mode : Mode) (t : Table) → shape t ≡ false → (L : Made → Type 0) →
