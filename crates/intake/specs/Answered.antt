@@ -23,9 +23,11 @@ use Rattle.trees.specs.Chain.{Conflict}
 pub record Serves (ls : List Opening) (p : ℤ) (k : ℕ) (rows : List ℤ) (n : ℕ) : Type 0 where
   pub one-number : (σ : List ℕ) (p q : ℕ) → Stands ls σ p → Stands ls σ q → p ≡ q
   pub longest-k : k ≡ longest ls
+  -- each state of the table is below n,
   pub counted : (i : ℕ) → List·Memᴰ i (states (rows-in rows)) → i < n
+  -- and each number below n is a state, since it is reached;
   pub reached : (i : ℕ) → i < n → Reached (rows-in rows) i
-  -- over all numbers below the state count
+  -- no two of them are alike, over all numbers below n
   pub unlike : (i j : ℕ) → i < n → j < n →
       production-of (accepting p) (rows-in rows) i ≡ production-of (accepting p) (rows-in rows) j →
       rows-of (rows-in rows) i ≡ rows-of (rows-in rows) j → i ≡ j

@@ -26,6 +26,7 @@ lists-in (p ∷ ps) (c ∷ cs) ns ts =
     record { production = p; lengths = take c ns; tokens = take (sum (take c ns)) ts }
     ∷ lists-in ps cs (drop c ns) (drop (sum (take c ns)) ts)
 
+-- A list is built.
 unfoldable pub build-lent : Lent → Ruling Made
 build-lent l = build (l .production) (l .tokens) (l .lengths) 16384
 
@@ -33,10 +34,12 @@ build-lent l = build (l .production) (l .tokens) (l .lengths) 16384
 unfoldable pub join-lent : Made → Lent → Ruling Made
 join-lent a l = then (build-lent l) (λ b. unite-made a b)
 
+-- Each of the other lists, one after the other.
 unfoldable pub join-all : Made → List Lent → Ruling Made
 join-all a [] = accept a
 join-all a (l ∷ ls) = then (join-lent a l) (λ c. join-all c ls)
 
+-- The first list is built, and the others are joined to it; no list is no table.
 unfoldable pub unite-all : List Lent → Ruling Made
 unite-all [] = refuse 1 []
 unite-all (l ∷ ls) = then (build-lent l) (λ a. join-all a ls)

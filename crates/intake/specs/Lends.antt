@@ -9,16 +9,20 @@ use Rattle.paper.specs.Lists.{Opening}
 use Rattle.paper.specs.Cases.{joined}
 use Rattle.intake.specs.Call.{table-of}
 
+-- The productions.
 unfoldable pub productions-of : List Opening → List ℤ
 productions-of ls = map (λ l. pos (l .production)) ls
 
+-- How many strings each list has.
 unfoldable pub counts-of : List Opening → List ℕ
 counts-of ls = map (λ l. length (l .strings)) ls
 
+-- The lengths of all strings.
 unfoldable pub lengths-of : List Opening → List ℕ
 lengths-of [] = []
 lengths-of (l ∷ ls) = map (λ σ. length σ) (l .strings) ++ lengths-of ls
 
+-- The tokens of all strings.
 unfoldable pub tokens-of : List Opening → List ℕ
 tokens-of [] = []
 tokens-of (l ∷ ls) = joined (l .strings) ++ tokens-of ls

@@ -14,9 +14,11 @@ use Rattle.merging.specs.Reach.{Reached}
 use Rattle.trees.specs.Says.{Stands, foretold}
 use Rattle.trees.specs.Chain.{chain, Conflict}
 
+-- A made table is shrunk, in intake mode.
 unfoldable pub shrink-made : Made → Ruling Made
 shrink-made m = shrink Intake (signed (m .table .prod0)) (m .table .k) (numbers (m .table .rows)) 16384
 
+-- All lists are built and united, and the result is shrunk.
 unfoldable pub calls : Opening → List Opening → Ruling Made
 calls l ls = then (chain l ls) shrink-made
 
@@ -26,9 +28,11 @@ calls l ls = then (chain l ls) shrink-made
 pub record Kept (ls : List Opening) (m : Made) : Type 0 where
   pub one-number : (σ : List ℕ) (p q : ℕ) → Stands ls σ p → Stands ls σ q → p ≡ q
   pub longest-k : m .table .k ≡ longest ls
+  -- each state of the table is below the state count,
   pub counted : (i : ℕ) → List·Memᴰ i (states (m .table .rows)) → i < m .states
+  -- and each number below it is a state, since it is reached;
   pub reached : (i : ℕ) → i < m .states → Reached (m .table .rows) i
-  -- over all numbers below the state count
+  -- no two of them are alike, over all numbers below the state count
   pub unlike : (i j : ℕ) → i < m .states → j < m .states →
       production-of (m .table .prod0) (m .table .rows) i ≡ production-of (m .table .prod0) (m .table .rows) j →
       rows-of (m .table .rows) i ≡ rows-of (m .table .rows) j → i ≡ j

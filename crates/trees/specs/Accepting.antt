@@ -6,14 +6,17 @@ use mathlib.Core.List.{List, [], _∷_, List·Memᴰ}
 use Rattle.paper.specs.Rows.{Row, Table}
 use Rattle.trees.specs.Reach.{Word}
 
+-- One state, if it has a production.
 unfoldable pub accepts : Option ℕ → ℕ
 accepts none = 0
 accepts (some q) = 1
 
+-- The rows with a production: in a tree each state but 0 is the to of one row.
 unfoldable pub accepting-rows : List Row → ℕ
 accepting-rows [] = 0
 accepting-rows (r ∷ rs) = accepts (r .production) + accepting-rows rs
 
+-- State 0 and the others.
 unfoldable pub accepting-states : Table → ℕ
 accepting-states t = accepts (t .prod0) + accepting-rows (t .rows)
 

@@ -32,6 +32,7 @@ unfoldable pub unite-rest : Made → List Opening → Ruling Made
 unite-rest a [] = accept a
 unite-rest a (l ∷ ls) = then (build-list l) (λ b. then (unite-made a b) (λ c. unite-rest c ls))
 
+-- The first list is built, and the others are united to it.
 unfoldable pub chain : Opening → List Opening → Ruling Made
 chain l ls = then (build-list l) (λ a. unite-rest a ls)
 

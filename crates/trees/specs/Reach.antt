@@ -17,6 +17,7 @@ Finder = ℕ → ℕ → Option Row
 abbrev pub sit : Row → Seat
 sit r = record { state = r .to; production = r .production }
 
+-- Where a row leads, if there is one.
 unfoldable pub seat-of : Option Row → Option Seat
 seat-of none = none
 seat-of (some r) = some (sit r)
@@ -39,6 +40,7 @@ reach t σ = all-onward (find (t .rows)) (some (record { state = 0; production =
 abbrev pub Word : Type 0
 Word = Option (Option ℕ)
 
+-- What is said of a string that leads to a state, or nowhere.
 unfoldable pub said : Option Seat → Word
 said none = none
 said (some x) = some (x .production)
