@@ -1,0 +1,190 @@
+//! The calls over slices that the caller lends: nothing is allocated, any numbers may be lent.
+//!
+//! Rows stand four numbers each in `i32` slices, prod0 is -1 for "does not accept". Output slices have [`ROOM`] numbers
+//! or [`TEXT_ROOM`] bytes or more; a result stands at the front, and what follows it is as before. A call that refuses
+//! leaves its output as it was.
+//!
+//! ```
+//! use lookahead::lent::{self, Lent, ROOM};
+//! use lookahead::{Mode, Refusal};
+//!
+//! let (mut first, mut second, mut both) = ([0; ROOM], [0; ROOM], [0; ROOM]);
+//! let a = lent::build(1, &[5, 7], &[1, 1], &mut first)?.lent(&first);
+//! let b = lent::build(2, &[5, 6], &[2], &mut second)?.lent(&second);
+//! let t = lent::unite(Mode::Intake, a, b, &mut both)?.lent(&both);
+//! assert_eq!(&[0, 5, 1, 1, 0, 7, 2, 1, 1, 6, 3, 2], t.rows);
+//! assert_eq!((2, 2), lent::predict(Mode::Intake, t, 2, &[5, 6])?.into());
+//! assert_eq!(Err(Refusal::Length), lent::build(1, &[5], &[1], &mut first[1..]));
+//! # Ok::<(), Refusal>(())
+//! ```
+
+use crate::raw;
+use crate::{Mode, Refusal};
+
+/// The count of numbers that an output slice for rows has at least.
+pub const ROOM: usize = 16_384;
+
+/// The count of bytes that an output slice for text has at least.
+pub const TEXT_ROOM: usize = 262_144;
+
+/// A table as it is lent: any numbers, any length.
+#[derive(Debug, Clone, Copy, PartialEq, Eq)]
+pub struct Lent<'a> {
+    pub prod0: i32,
+    pub k: usize,
+    pub rows: &'a [i32],
+}
+
+/// A table whose rows stand at the front of the output.
+#[derive(Debug, Clone, Copy, PartialEq, Eq)]
+pub struct Made {
+    pub prod0: i32,
+    pub k: usize,
+    pub rows: usize,
+    /// The count of states; of a table that was read from text 0, since text does not tell it.
+    pub states: usize,
+}
+
+impl Made {
+    /// The table at the front of the output that it was made in.
+    pub fn lent(self, out: &[i32]) -> Lent<'_> {
+        Lent {
+            prod0: self.prod0,
+            k: self.k,
+            rows: &out[..4 * self.rows],
+        }
+    }
+
+    fn of(values: [u64; 4]) -> Made {
+        Made {
+            prod0: values[0] as i32 - 1,
+            k: values[1] as usize,
+            rows: values[2] as usize,
+            states: values[3] as usize,
+        }
+    }
+}
+
+/// A prediction: the production, and the count of rows entered.
+#[derive(Debug, Clone, Copy, PartialEq, Eq, Hash)]
+pub struct Predicted {
+    pub production: u16,
+    pub entered: usize,
+}
+
+impl From<Predicted> for (u16, usize) {
+    fn from(said: Predicted) -> (u16, usize) {
+        (said.production, said.entered)
+    }
+}
+
+/// The four values, or the refusal.
+fn asked(call: impl FnOnce(*mut u64) -> usize) -> Result<[u64; 4], Refusal> {
+    let mut values = [0; 4];
+    let number = call(values.as_mut_ptr());
+    Refusal::of(number, &values).map_or(Ok(values), Err)
+}
+
+// SAFETY of all calls below: each reads the lent slices and writes its output slice and the four numbers of the answer.
+
+/// The tree of a list of strings, whose tokens stand one after the other, under one production.
+#[rustfmt::skip]
+pub fn build(production: i32, tokens: &[u16], lengths: &[usize], out: &mut [i32]) -> Result<Made, Refusal> {
+    asked(|answer| unsafe {
+        raw::lookahead_build(production, tokens.as_ptr(), tokens.len(), lengths.as_ptr(), lengths.len(),
+            out.as_mut_ptr(), out.len(), answer)
+    }).map(Made::of)
+}
+
+/// Two trees as one.
+#[rustfmt::skip]
+pub fn unite(mode: Mode, a: Lent, b: Lent, out: &mut [i32]) -> Result<Made, Refusal> {
+    asked(|answer| unsafe {
+        raw::lookahead_unite(mode.number(), a.prod0, a.k, a.rows.as_ptr(), a.rows.len(), b.prod0, b.k,
+            b.rows.as_ptr(), b.rows.len(), out.as_mut_ptr(), out.len(), answer)
+    }).map(Made::of)
+}
+
+/// A ruled table with states that are alike made one.
+#[rustfmt::skip]
+pub fn shrink(mode: Mode, t: Lent, out: &mut [i32]) -> Result<Made, Refusal> {
+    asked(|answer| unsafe {
+        raw::lookahead_shrink(mode.number(), t.prod0, t.k, t.rows.as_ptr(), t.rows.len(), out.as_mut_ptr(),
+            out.len(), answer)
+    }).map(Made::of)
+}
+
+/// Lists built, united one after the other and shrunk in intake mode. List i has `counts[i]` strings under
+/// `productions[i]`; the strings' lengths and tokens stand one after the other.
+#[rustfmt::skip]
+pub fn intake(productions: &[i32], counts: &[usize], lengths: &[usize], tokens: &[u16], out: &mut [i32])
+    -> Result<Made, Refusal> {
+    asked(|answer| unsafe {
+        raw::lookahead_intake(productions.as_ptr(), productions.len(), counts.as_ptr(), counts.len(),
+            lengths.as_ptr(), lengths.len(), tokens.as_ptr(), tokens.len(), out.as_mut_ptr(), out.len(), answer)
+    }).map(Made::of)
+}
+
+/// The checks of predict and explain on the table alone: 1, 2, 3.
+pub fn check(t: Lent) -> Result<(), Refusal> {
+    let number = unsafe { raw::lookahead_check(t.prod0, t.k, t.rows.as_ptr(), t.rows.len()) };
+    Refusal::of(number, &[0; 4]).map_or(Ok(()), Err)
+}
+
+/// The production that the first k tokens mean, in a stream whose own k is `stream`.
+#[rustfmt::skip]
+pub fn predict(mode: Mode, t: Lent, stream: usize, tokens: &[u16]) -> Result<Predicted, Refusal> {
+    asked(|answer| unsafe {
+        raw::lookahead_predict(mode.number(), t.prod0, t.k, t.rows.as_ptr(), t.rows.len(), stream, tokens.as_ptr(),
+            tokens.len(), answer)
+    }).map(predicted)
+}
+
+/// The same for a table that [`check`] accepts.
+///
+/// # Safety
+/// [`check`] accepts the table.
+#[rustfmt::skip]
+pub(crate) unsafe fn predict_checked(mode: Mode, t: Lent, stream: usize, tokens: &[u16])
+    -> Result<Predicted, Refusal> {
+    asked(|answer| unsafe {
+        raw::lookahead_predict_checked(mode.number(), t.prod0, t.k, t.rows.as_ptr(), t.rows.len(), stream,
+            tokens.as_ptr(), tokens.len(), answer)
+    }).map(predicted)
+}
+
+fn predicted(values: [u64; 4]) -> Predicted {
+    Predicted {
+        production: values[0] as u16,
+        entered: values[1] as usize,
+    }
+}
+
+/// The count of tokens that have a row one after the other, and the rows that leave the state where the next has none.
+#[rustfmt::skip]
+pub fn explain<'a>(t: Lent<'a>, tokens: &[u16]) -> Result<(usize, &'a [i32]), Refusal> {
+    let matched = asked(|answer| unsafe {
+        raw::lookahead_explain(t.prod0, t.k, t.rows.as_ptr(), t.rows.len(), tokens.as_ptr(), tokens.len(), answer)
+    })?[0];
+    let [start, count, ..] = asked(|answer| unsafe {
+        raw::lookahead_stretch(t.prod0, t.k, t.rows.as_ptr(), t.rows.len(), tokens.as_ptr(), tokens.len(), answer);
+        0
+    })?.map(|n| n as usize);
+    Ok((matched as usize, &t.rows[start..start + count]))
+}
+
+/// A table from its text.
+#[rustfmt::skip]
+pub fn text_in(text: &[u8], out: &mut [i32]) -> Result<Made, Refusal> {
+    asked(|answer| unsafe {
+        raw::lookahead_text_in(text.as_ptr(), text.len(), out.as_mut_ptr(), out.len(), answer)
+    }).map(Made::of)
+}
+
+/// A table's text; its length.
+#[rustfmt::skip]
+pub fn text_out(t: Lent, out: &mut [u8]) -> Result<usize, Refusal> {
+    asked(|answer| unsafe {
+        raw::lookahead_text_out(t.prod0, t.k, t.rows.as_ptr(), t.rows.len(), out.as_mut_ptr(), out.len(), answer)
+    }).map(|values| values[0] as usize)
+}
