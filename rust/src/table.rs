@@ -29,7 +29,7 @@ pub struct Table {
     numbers: Vec<i32>,
 }
 
-/// What shrinking leaves: in archive mode states may stay that no row leads to, so the rows alone do not tell the count.
+/// What shrinking leaves. In archive mode states may stay that no row leads to, so rows do not tell the count.
 #[derive(Debug, Clone, PartialEq, Eq, Hash)]
 pub struct Shrunk {
     pub table: Table,

@@ -1,0 +1,213 @@
+//! Each call made and compared: in archive mode with the Rust where it has a say, and always with the reading.
+
+use crate::desk::{Change, Desk, Held, with_output};
+use crate::expected::{Expected, heard, made};
+use crate::fault::Fault;
+use crate::model::{self, Lists};
+use lookahead::raw;
+use oracle::agree::{self, Lending};
+use oracle::reading::{self, Answer, Mode};
+use oracle::{Lent, Table};
+use std::fmt::Debug;
+
+/// The mode's number at the boundary: 0, or any other for intake.
+fn number(mode: Mode, any: usize) -> u32 {
+    match mode {
+        Mode::Archive => 0,
+        Mode::Intake => [1, 1, 1, 2, u32::MAX][any % 5],
+    }
+}
+
+impl Desk {
+    fn made(
+        &mut self,
+        expected: &Expected<i32>,
+        room: usize,
+        input: &impl Debug,
+        call: impl FnOnce(*mut i32, usize, *mut u64) -> usize,
+    ) {
+        let fault = self.fault.map(|f| (f, (|n| n ^ 1) as Change<i32>));
+        with_output(&mut self.rows, room, fault, expected, input, call);
+        self.count(expected.number);
+    }
+
+    fn kept<T: Copy + PartialEq + Debug>(
+        &self,
+        held: &mut Held<T>,
+        change: fn(T) -> T,
+        input: &impl Debug,
+    ) {
+        if self.fault == Some(Fault::Input) {
+            held.spoil(change);
+        }
+        held.unchanged(input);
+    }
+
+    #[rustfmt::skip]
+    pub fn build(&mut self, production: i32, lengths: &[usize], tokens: &[u16], room: usize) -> Answer<Table> {
+        let input = ("build", production, lengths, tokens, room);
+        let (asked, read) = agree::build(production, lengths, tokens, room);
+        let (mut n, mut t) = (Held::new(lengths), Held::new(tokens));
+        let ((ns, nl), (ts, tl)) = (n.lent(), t.lent());
+        self.made(&made(read.clone()), room, &input, |out, len, answer| unsafe {
+            raw::lookahead_build(production, ts, tl, ns, nl, out, len, answer)
+        });
+        self.kept(&mut n, |n| n ^ 1, &input);
+        self.kept(&mut t, |n| n ^ 1, &input);
+        self.asked += asked as u64;
+        read
+    }
+
+    #[rustfmt::skip]
+    pub fn unite(&mut self, mode: Mode, a: Lent, b: Lent, room: usize) -> Answer<Table> {
+        let input = ("unite", mode, a, b, room);
+        let (asked, read) = agree::unite(mode, a, b, room);
+        let (mut f, mut s) = (Held::new(a.rows), Held::new(b.rows));
+        let ((fs, fl), (ss, sl)) = (f.lent(), s.lent());
+        let m = number(mode, a.rows.len() / 4 + b.rows.len());
+        self.made(&made(read.clone()), room, &input, |out, len, answer| unsafe {
+            raw::lookahead_unite(m, a.prod0, a.k, fs, fl, b.prod0, b.k, ss, sl, out, len, answer)
+        });
+        self.kept(&mut f, |n| n ^ 1, &input);
+        self.kept(&mut s, |n| n ^ 1, &input);
+        self.asked += asked as u64;
+        read
+    }
+
+    #[rustfmt::skip]
+    pub fn shrink(&mut self, mode: Mode, t: Lent, room: usize) -> Answer<Table> {
+        let input = ("shrink", mode, t, room);
+        let (asked, read) = agree::shrink(mode, t, room);
+        let mut r = Held::new(t.rows);
+        let (rs, rl) = r.lent();
+        let m = number(mode, t.rows.len() / 4);
+        self.made(&made(read.clone()), room, &input, |out, len, answer| unsafe {
+            raw::lookahead_shrink(m, t.prod0, t.k, rs, rl, out, len, answer)
+        });
+        self.kept(&mut r, |n| n ^ 1, &input);
+        self.asked += asked as u64;
+        read
+    }
+
+    #[rustfmt::skip]
+    pub fn intake(&mut self, lists: &Lists, room: usize) -> Answer<Table> {
+        let input = ("intake", lists, room);
+        let read = model::intake(lists, room);
+        let (mut p, mut c) = (Held::new(&lists.productions), Held::new(&lists.counts));
+        let (mut n, mut t) = (Held::new(&lists.lengths), Held::new(&lists.tokens));
+        let ((ps, pl), (cs, cl), (ns, nl), (ts, tl)) = (p.lent(), c.lent(), n.lent(), t.lent());
+        self.made(&made(read.clone()), room, &input, |out, len, answer| unsafe {
+            raw::lookahead_intake(ps, pl, cs, cl, ns, nl, ts, tl, out, len, answer)
+        });
+        self.kept(&mut p, |n| n ^ 1, &input);
+        self.kept(&mut c, |n| n ^ 1, &input);
+        self.kept(&mut n, |n| n ^ 1, &input);
+        self.kept(&mut t, |n| n ^ 1, &input);
+        read
+    }
+
+    #[rustfmt::skip]
+    pub fn text_in(&mut self, text: &[u8], room: usize) -> Answer<Table> {
+        let input = ("text in", String::from_utf8_lossy(text), text, room);
+        let read = reading::text_in(text, room);
+        let mut b = Held::new(text);
+        let (bs, bl) = b.lent();
+        self.made(&heard(read.clone()), room, &input, |out, len, answer| unsafe {
+            raw::lookahead_text_in(bs, bl, out, len, answer)
+        });
+        self.kept(&mut b, |n| n ^ 1, &input);
+        read
+    }
+
+    #[rustfmt::skip]
+    pub fn text_out(&mut self, t: Lent, room: usize) -> Answer<Vec<u8>> {
+        let input = ("text out", t, room);
+        let read = reading::text_out(t, room);
+        let expected = Expected::of(read.clone(), |text| ([text.len() as u64, 0, 0, 0], text));
+        let mut r = Held::new(t.rows);
+        let (rs, rl) = r.lent();
+        let fault = self.fault.map(|f| (f, (|n| n ^ 1) as Change<u8>));
+        with_output(&mut self.bytes, room, fault, &expected, &input, |out, len, answer| unsafe {
+            raw::lookahead_text_out(t.prod0, t.k, rs, rl, out, len, answer)
+        });
+        self.count(expected.number);
+        self.kept(&mut r, |n| n ^ 1, &input);
+        read
+    }
+}
+
+/// A table that is lent to predict and explain; the Rust's form of it is made once.
+pub struct Walked<'a> {
+    table: Lent<'a>,
+    rows: Held<'a, i32>,
+    lending: Lending<'a>,
+    passed: bool,
+}
+
+impl Desk {
+    /// The checks on the table alone.
+    pub fn lend<'a>(&mut self, table: Lent<'a>) -> Walked<'a> {
+        let mut rows = Held::new(table.rows);
+        let read = reading::explain(table, &[]).matched;
+        let expected = read.err().map_or(0, |refusal| refusal.number() as usize);
+        let (rs, rl) = rows.lent();
+        let mut said = unsafe { raw::lookahead_check(table.prod0, table.k, rs, rl) };
+        if self.fault == Some(Fault::Number) {
+            said ^= 1;
+        }
+        assert_eq!(said, expected, "for check {table:?}");
+        self.kept(&mut rows, |n| n ^ 1, &table);
+        self.count(said);
+        Walked {
+            table,
+            rows,
+            lending: Lending::new(table),
+            passed: said == 0,
+        }
+    }
+
+    #[rustfmt::skip]
+    pub fn predict(&mut self, w: &mut Walked, mode: Mode, stream: usize, tokens: &[u16]) -> Answer<(i32, usize)> {
+        let (t, m) = (w.table, number(mode, stream));
+        let input = ("predict", mode, t, stream, tokens);
+        let (asked, read) = w.lending.predict(mode, stream, tokens);
+        let expected = Expected::of(read, |(production, entered)| {
+            ([production as u64, entered as u64, 0, 0], Vec::new())
+        });
+        let mut held = Held::new(tokens);
+        let ((rs, rl), (ts, tl)) = (w.rows.lent(), held.lent());
+        self.plain(&expected, &input, |answer| unsafe {
+            raw::lookahead_predict(m, t.prod0, t.k, rs, rl, stream, ts, tl, answer)
+        });
+        if w.passed {
+            self.plain(&expected, &("checked", input), |answer| unsafe {
+                raw::lookahead_predict_checked(m, t.prod0, t.k, rs, rl, stream, ts, tl, answer)
+            });
+        }
+        self.kept(&mut held, |n| n ^ 1, &input);
+        self.kept(&mut w.rows, |n| n ^ 1, &input);
+        self.asked += asked as u64 * if w.passed { 2 } else { 1 };
+        read
+    }
+
+    #[rustfmt::skip]
+    pub fn explain(&mut self, w: &mut Walked, tokens: &[u16]) {
+        let t = w.table;
+        let input = ("explain", t, tokens);
+        let (asked, read) = w.lending.explain(tokens);
+        let mut held = Held::new(tokens);
+        let ((rs, rl), (ts, tl)) = (w.rows.lent(), held.lent());
+        let matched = Expected::of(read.matched, |n| ([n as u64, 0, 0, 0], Vec::new()));
+        self.plain(&matched, &input, |answer| unsafe {
+            raw::lookahead_explain(t.prod0, t.k, rs, rl, ts, tl, answer)
+        });
+        let stretch = Expected { number: 0, values: [read.start as u64, read.count as u64, 0, 0], front: Vec::new() };
+        self.plain(&stretch, &("stretch", input), |answer| unsafe {
+            raw::lookahead_stretch(t.prod0, t.k, rs, rl, ts, tl, answer);
+            0
+        });
+        self.kept(&mut held, |n| n ^ 1, &input);
+        self.kept(&mut w.rows, |n| n ^ 1, &input);
+        self.asked += 2 * asked as u64;
+    }
+}

@@ -1,0 +1,142 @@
+//! Where a call is made and everything that it leaves is looked at.
+
+use crate::expected::Expected;
+use crate::fault::Fault;
+use std::fmt::Debug;
+
+/// Numbers behind an output slice that must stay as they were.
+pub const GUARD: usize = 128;
+
+/// What an answer holds before a call, so that a value that is not written shows.
+const UNWRITTEN: u64 = 0xdead_beef_dead_beef;
+
+/// How a fault on purpose changes a number.
+pub type Change<T> = fn(T) -> T;
+
+/// An output with a pattern in it, and guards behind it.
+pub struct Output<T> {
+    now: Vec<T>,
+    before: Vec<T>,
+}
+
+impl<T: Copy + PartialEq + Debug> Output<T> {
+    pub fn new(room: usize, pattern: impl Fn(usize) -> T) -> Self {
+        let before: Vec<T> = (0..room + 2 * GUARD).map(pattern).collect();
+        let now = before.clone();
+        Output { now, before }
+    }
+}
+
+/// A slice as it is lent: a copy of its own, so that a change would show.
+pub struct Held<'a, T> {
+    now: Vec<T>,
+    before: &'a [T],
+}
+
+impl<'a, T: Copy + PartialEq + Debug> Held<'a, T> {
+    pub fn new(before: &'a [T]) -> Self {
+        let now = before.to_vec();
+        Held { now, before }
+    }
+
+    /// The pointer and the length.
+    pub fn lent(&mut self) -> (*const T, usize) {
+        (self.now.as_mut_ptr(), self.now.len())
+    }
+
+    /// For faults on purpose.
+    pub fn spoil(&mut self, change: impl FnOnce(T) -> T) -> bool {
+        let last = self.now.last_mut();
+        last.map(|n| *n = change(*n)).is_some()
+    }
+
+    /// The lent slice is as it was.
+    pub fn unchanged(&self, input: &impl Debug) {
+        assert!(self.now == self.before, "a lent slice changed: {input:?}");
+    }
+}
+
+/// The outputs, the counts, and the fault that is made on purpose, if any.
+pub struct Desk {
+    pub rows: Output<i32>,
+    pub bytes: Output<u8>,
+    pub cases: u64,
+    /// Of these, the cases in which the Rust was asked.
+    pub asked: u64,
+    /// How many were accepted (0) and refused by each number.
+    pub by: [u64; 15],
+    pub fault: Option<Fault>,
+}
+
+impl Desk {
+    pub fn new() -> Self {
+        let number = |i: usize| (i as i32).wrapping_mul(0x0061_c889) ^ 0x5a5a_5a5a;
+        Desk {
+            rows: Output::new(crate::model::ROOM, number),
+            bytes: Output::new(crate::model::TEXT_ROOM, |i| (i * 7 + i / 251) as u8 | 128),
+            cases: 0,
+            asked: 0,
+            by: [0; 15],
+            fault: None,
+        }
+    }
+
+    /// A call without output.
+    pub fn plain(
+        &mut self,
+        expected: &Expected<i32>,
+        input: &impl Debug,
+        call: impl FnOnce(*mut u64) -> usize,
+    ) {
+        let mut answer = [UNWRITTEN; 4];
+        let mut number = call(answer.as_mut_ptr());
+        if let Some(fault) = self.fault {
+            fault.answer(&mut number, &mut answer);
+        }
+        answers(expected, number, answer, input);
+        self.count(number);
+    }
+
+    /// One more case, with this number.
+    pub fn count(&mut self, number: usize) {
+        self.cases += 1;
+        self.by[number] += 1;
+    }
+}
+
+/// A call with an output of `room` elements: the number, the values, the front, and all that follows.
+pub fn with_output<T: Copy + PartialEq + Debug>(
+    output: &mut Output<T>,
+    room: usize,
+    fault: Option<(Fault, Change<T>)>,
+    expected: &Expected<T>,
+    input: &impl Debug,
+    call: impl FnOnce(*mut T, usize, *mut u64) -> usize,
+) {
+    let mut answer = [UNWRITTEN; 4];
+    let mut number = call(output.now.as_mut_ptr(), room, answer.as_mut_ptr());
+    let front = expected.front.len();
+    if let Some((fault, change)) = fault {
+        fault.answer(&mut number, &mut answer);
+        fault.output(&mut output.now, front, room, change);
+    }
+    answers(expected, number, answer, input);
+    let now = &output.now;
+    if now[..front] != expected.front[..] {
+        let place = (0..front).find(|&i| now[i] != expected.front[i]).unwrap();
+        let (ours, theirs) = (&now[..front], &expected.front);
+        panic!("the output differs at {place}: {ours:?}, expected {theirs:?}, for {input:?}");
+    }
+    if now[front..] != output.before[front..] {
+        let place = (front..now.len()).find(|&i| now[i] != output.before[i]);
+        panic!(
+            "what follows the {front} of the result changed at {place:?} of {room}, for {input:?}"
+        );
+    }
+    output.now[..front].copy_from_slice(&output.before[..front]);
+}
+
+fn answers<T>(expected: &Expected<T>, number: usize, answer: [u64; 4], input: &impl Debug) {
+    let theirs = (expected.number, expected.values);
+    assert_eq!((number, answer), theirs, "for {input:?}");
+}

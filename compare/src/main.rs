@@ -1,0 +1,30 @@
+//! The proved calls beside the Rust and the reading of document 01, on the same inputs.
+//!
+//! `compare` is the short run, `compare long [ROUNDS]` the long one, `compare faults` shows that a difference is
+//! reported.
+
+mod calls;
+mod damage;
+mod desk;
+mod expected;
+mod families;
+mod fault;
+mod faults;
+mod model;
+mod part;
+mod work;
+
+fn main() {
+    let words: Vec<String> = std::env::args().skip(1).collect();
+    let words: Vec<&str> = words.iter().map(String::as_str).collect();
+    match words[..] {
+        [] => work::run(1, false),
+        ["long"] => work::run(work::LONG, true),
+        ["long", rounds] => work::run(rounds.parse().expect("a count of rounds"), true),
+        ["faults"] => faults::run(),
+        _ => {
+            eprintln!("compare [long [ROUNDS] | faults]");
+            std::process::exit(2);
+        }
+    }
+}
