@@ -1,4 +1,4 @@
-//! Links the proved calls, which `rt staticlib exports` writes.
+//! Links the measured walk, which `rt staticlib measured` writes; the crate `lookahead` links the calls.
 fn main() {
     let top = std::path::Path::new(env!("CARGO_MANIFEST_DIR"))
         .parent()
@@ -7,6 +7,6 @@ fn main() {
         "cargo:rustc-link-search=native={}/target/staticlib",
         top.display()
     );
-    println!("cargo:rustc-link-lib=static=exports");
-    println!("cargo:rerun-if-changed=../target/staticlib/libexports.a");
+    println!("cargo:rustc-link-lib=static=measured");
+    println!("cargo:rerun-if-changed=../target/staticlib/libmeasured.a");
 }

@@ -1,25 +1,12 @@
-//! The proved calls, as the static library has them.
+//! The proved calls, as the static libraries have them.
+use lookahead::raw;
 use oracle::Lent;
 
 #[rustfmt::skip]
 unsafe extern "C" {
-    fn lookahead_build(production: i32, tokens: *const u16, tokens_len: usize, lengths: *const usize,
-        lengths_len: usize, out: *mut i32, out_len: usize, answer: *mut u64) -> usize;
-    fn lookahead_unite(mode: u32, prod0a: i32, ka: usize, a: *const i32, a_len: usize, prod0b: i32, kb: usize,
-        b: *const i32, b_len: usize, out: *mut i32, out_len: usize, answer: *mut u64) -> usize;
-    fn lookahead_shrink(mode: u32, prod0: i32, k: usize, rows: *const i32, rows_len: usize, out: *mut i32,
-        out_len: usize, answer: *mut u64) -> usize;
-    fn lookahead_predict(mode: u32, prod0: i32, k: usize, rows: *const i32, rows_len: usize, stream: usize,
-        tokens: *const u16, tokens_len: usize, answer: *mut u64) -> usize;
-    fn lookahead_predict_checked(mode: u32, prod0: i32, k: usize, rows: *const i32, rows_len: usize, stream: usize,
-        tokens: *const u16, tokens_len: usize, answer: *mut u64) -> usize;
-    fn lookahead_windows(mode: u32, prod0: i32, k: usize, rows: *const i32, rows_len: usize, tokens: *const u16,
-        tokens_len: usize, answers: *mut u32, answers_len: usize);
-    fn lookahead_explain(prod0: i32, k: usize, rows: *const i32, rows_len: usize, tokens: *const u16,
-        tokens_len: usize, answer: *mut u64) -> usize;
-    fn lookahead_text_in(text: *const u8, text_len: usize, out: *mut i32, out_len: usize, answer: *mut u64) -> usize;
-    fn lookahead_text_out(prod0: i32, k: usize, rows: *const i32, rows_len: usize, out: *mut u8, out_len: usize,
-        answer: *mut u64) -> usize;
+    /// The walk alone, in a library of its own.
+    fn measured_windows(prod0: i32, k: usize, rows: *const i32, rows_len: usize, tokens: *const u16, tokens_len: usize,
+        answers: *mut u32, answers_len: usize);
 }
 
 /// The refusal's number (0: accepted) and the values.
@@ -34,7 +21,7 @@ fn asked(call: impl FnOnce(*mut u64) -> usize) -> Answer {
 
 pub fn build(production: i32, tokens: &[u16], lengths: &[usize], out: &mut [i32]) -> Answer {
     asked(|answer| unsafe {
-        lookahead_build(
+        raw::lookahead_build(
             production,
             tokens.as_ptr(),
             tokens.len(),
@@ -49,7 +36,7 @@ pub fn build(production: i32, tokens: &[u16], lengths: &[usize], out: &mut [i32]
 
 pub fn unite(mode: u32, a: Lent, b: Lent, out: &mut [i32]) -> Answer {
     asked(|answer| unsafe {
-        lookahead_unite(
+        raw::lookahead_unite(
             mode,
             a.prod0,
             a.k,
@@ -68,7 +55,7 @@ pub fn unite(mode: u32, a: Lent, b: Lent, out: &mut [i32]) -> Answer {
 
 pub fn shrink(mode: u32, t: Lent, out: &mut [i32]) -> Answer {
     asked(|answer| unsafe {
-        lookahead_shrink(
+        raw::lookahead_shrink(
             mode,
             t.prod0,
             t.k,
@@ -83,7 +70,7 @@ pub fn shrink(mode: u32, t: Lent, out: &mut [i32]) -> Answer {
 
 pub fn predict(mode: u32, t: Lent, stream: usize, tokens: &[u16]) -> Answer {
     asked(|answer| unsafe {
-        lookahead_predict(
+        raw::lookahead_predict(
             mode,
             t.prod0,
             t.k,
@@ -101,7 +88,7 @@ pub fn predict(mode: u32, t: Lent, stream: usize, tokens: &[u16]) -> Answer {
 /// The table has passed the checks 1 to 3: `predict` did not refuse it by 1, 2 or 3.
 pub unsafe fn predict_checked(mode: u32, t: Lent, stream: usize, tokens: &[u16]) -> Answer {
     asked(|answer| unsafe {
-        lookahead_predict_checked(
+        raw::lookahead_predict_checked(
             mode,
             t.prod0,
             t.k,
@@ -115,14 +102,13 @@ pub unsafe fn predict_checked(mode: u32, t: Lent, stream: usize, tokens: &[u16])
     })
 }
 
-/// Windows of k tokens one after the other.
+/// Windows of k tokens one after the other, in archive mode.
 ///
 /// # Safety
 /// As for `predict_checked`.
-pub unsafe fn windows(mode: u32, t: Lent, tokens: &[u16], answers: &mut [u32]) {
+pub unsafe fn windows(t: Lent, tokens: &[u16], answers: &mut [u32]) {
     unsafe {
-        lookahead_windows(
-            mode,
+        measured_windows(
             t.prod0,
             t.k,
             t.rows.as_ptr(),
@@ -135,23 +121,20 @@ pub unsafe fn windows(mode: u32, t: Lent, tokens: &[u16], answers: &mut [u32]) {
     }
 }
 
+/// Both calls, so that the rows are told too: the values are the second's.
 pub fn explain(t: Lent, tokens: &[u16]) -> Answer {
+    let (rows, len) = (t.rows.as_ptr(), t.rows.len());
+    let (lent, count) = (tokens.as_ptr(), tokens.len());
     asked(|answer| unsafe {
-        lookahead_explain(
-            t.prod0,
-            t.k,
-            t.rows.as_ptr(),
-            t.rows.len(),
-            tokens.as_ptr(),
-            tokens.len(),
-            answer,
-        )
+        let said = raw::lookahead_explain(t.prod0, t.k, rows, len, lent, count, answer);
+        raw::lookahead_stretch(t.prod0, t.k, rows, len, lent, count, answer);
+        said
     })
 }
 
 pub fn text_in(text: &[u8], out: &mut [i32]) -> Answer {
     asked(|answer| unsafe {
-        lookahead_text_in(
+        raw::lookahead_text_in(
             text.as_ptr(),
             text.len(),
             out.as_mut_ptr(),
@@ -163,7 +146,7 @@ pub fn text_in(text: &[u8], out: &mut [i32]) -> Answer {
 
 pub fn text_out(t: Lent, out: &mut [u8]) -> Answer {
     asked(|answer| unsafe {
-        lookahead_text_out(
+        raw::lookahead_text_out(
             t.prod0,
             t.k,
             t.rows.as_ptr(),

@@ -82,7 +82,7 @@ pub fn run() {
         let all: Vec<u16> = windows.iter().flatten().copied().collect();
         let mut answers = [0; 64];
         // SAFETY: the table passed, as asserted above.
-        let walk = clock::each(64, || unsafe { ours::windows(0, lent, &all, &mut answers) });
+        let walk = clock::each(64, || unsafe { ours::windows(lent, &all, &mut answers) });
         let single = clock::each(64, || {
             for w in &windows {
                 black_box(unsafe { ours::predict_checked(0, lent, k, w) });
