@@ -69,7 +69,7 @@ size_t lookahead_check(int32_t prod0, size_t k, const int32_t *rows, size_t rows
 size_t lookahead_predict(uint32_t mode, int32_t prod0, size_t k, const int32_t *rows, size_t rows_len, size_t stream,
                          const uint16_t *tokens, size_t tokens_len, uint64_t answer[4]);
 
-/* Predict for a table that lookahead_check accepts, and for no other: what else is lent here is not looked at.
+/* Predict for a table that lookahead_check accepts, for callers who predict often; with any other it is undefined.
  * Answer as predict's. Refuses by 9, 10, then 11 or 12. */
 size_t lookahead_predict_checked(uint32_t mode, int32_t prod0, size_t k, const int32_t *rows, size_t rows_len,
                                  size_t stream, const uint16_t *tokens, size_t tokens_len, uint64_t answer[4]);

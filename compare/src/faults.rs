@@ -111,9 +111,19 @@ pub fn run() {
         made += ALL.len() - hidden.len();
     }
     println!("{made} faults made on purpose, all reported");
+    println!("a run with one: {}", failed_run());
 }
 
-#[test]
-fn all_reported() {
-    run();
+/// A whole run with a fault in it: its last line, after it has failed as it must.
+fn failed_run() -> String {
+    let program = std::env::current_exe().expect("the path of this program");
+    let run = std::process::Command::new(program).arg("fault").output();
+    let run = run.expect("a run of this program");
+    let said = String::from_utf8_lossy(&run.stderr).into_owned();
+    let last = said.lines().last().unwrap_or_default();
+    if run.status.code() != Some(1) || !last.starts_with("differs: ") {
+        println!("a run with a fault in it ended with {}: {said}", run.status);
+        std::process::exit(1);
+    }
+    last.to_owned()
 }

@@ -2,6 +2,7 @@
 
 use crate::desk::Desk;
 use crate::families::{ALL, Family};
+use crate::fault::Fault;
 use crate::part::Part;
 use std::panic::{AssertUnwindSafe, catch_unwind};
 use std::sync::Mutex;
@@ -28,8 +29,8 @@ struct Job {
     part: Part,
 }
 
-/// Runs all families; exits with 1 at the first difference.
-pub fn run(rounds: usize, long: bool) {
+/// Runs all families, with a fault on purpose or without; exits with 1 at the first difference.
+pub fn run(rounds: usize, long: bool, fault: Option<Fault>) {
     let jobs = jobs(rounds, long);
     let next = AtomicUsize::new(0);
     let sums = Mutex::new([Sum::default(); ALL.len()]);
@@ -38,7 +39,7 @@ pub fn run(rounds: usize, long: bool) {
         for _ in 0..threads {
             scope.spawn(|| {
                 while let Some(job) = jobs.get(next.fetch_add(1, Ordering::Relaxed)) {
-                    let sum = worked(&ALL[job.family], job.part);
+                    let sum = worked(&ALL[job.family], job.part, fault);
                     let mut sums = sums.lock().unwrap();
                     let of = &mut sums[job.family];
                     of.cases += sum.cases;
@@ -72,9 +73,10 @@ fn jobs(rounds: usize, long: bool) -> Vec<Job> {
     jobs
 }
 
-fn worked(family: &Family, part: Part) -> Sum {
+fn worked(family: &Family, part: Part, fault: Option<Fault>) -> Sum {
     let begun = Instant::now();
     let mut desk = Desk::new();
+    desk.fault = fault;
     // The panic has already printed the input.
     if catch_unwind(AssertUnwindSafe(|| (family.run)(&mut desk, part))).is_err() {
         eprintln!(

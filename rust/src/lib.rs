@@ -10,8 +10,7 @@
 //! ```
 //! use lookahead::{Mode, Table};
 //!
-//! let (a, b): ([&[u16]; 2], [&[u16]; 1]) = ([&[5], &[7]], [&[5, 6]]);
-//! let table = Table::intake(&[(1, &a), (2, &b)])?.table;
+//! let table = Table::intake(&[(1, &[&[5], &[7]]), (2, &[&[5, 6]])])?.table;
 //! let answer = table.predict(Mode::Intake, 2, &[5, 9])?;
 //! assert_eq!((1, 1), (answer.production, answer.entered));
 //! let (matched, rows) = table.explain(&[5, 9]);

@@ -82,11 +82,10 @@ impl Table {
     /// ```
     /// use lookahead::{Mode, Refusal, Table};
     ///
-    /// let (a, b): ([&[u16]; 2], [&[u16]; 1]) = ([&[5], &[7]], [&[5, 6]]);
-    /// let shrunk = Table::intake(&[(1, &a), (2, &b)])?;
+    /// let shrunk = Table::intake(&[(1, &[&[5], &[7]]), (2, &[&[5, 6]])])?;
     /// assert_eq!(4, shrunk.states);
     /// assert_eq!(2, shrunk.table.predict(Mode::Intake, 2, &[5, 6])?.production);
-    /// assert_eq!(Err(Refusal::Clash(1, 2)), Table::intake(&[(1, &a), (2, &a)]));
+    /// assert_eq!(Err(Refusal::Clash(1, 2)), Table::intake(&[(1, &[&[5]]), (2, &[&[5]])]));
     /// # Ok::<(), Refusal>(())
     /// ```
     pub fn intake(lists: &[(u16, &[&[u16]])]) -> Result<Shrunk, Refusal> {
