@@ -110,7 +110,7 @@ fn rooms(desk: &mut Desk) {
 /// 1,024 and 1,025 strings, 16 and 17 tokens, sums that wrap.
 fn strings(desk: &mut Desk) {
     for (count, number) in [(1_023, 0), (1_024, 0), (1_025, 1)] {
-        for length in [0, 1] {
+        for length in [0, 1, 16] {
             let tokens = vec![9; count * length];
             let made = desk.build(1, &vec![length; count], &tokens, ROOM);
             assert_eq!(number, made.map_or_else(|r| r.number(), |_| 0));
@@ -177,9 +177,9 @@ fn states(desk: &mut Desk) {
     }
 }
 
-/// 4,095 to 4,097 rows, all into one state or widest in text, and slices of 1 to 3 numbers more.
+/// 4,095 to 4,097 rows and far more, all into one state or widest in text, and slices of 1 to 3 numbers less.
 fn longest(desk: &mut Desk) {
-    for count in [4_095, 4_096, 4_097] {
+    for count in [4_095, 4_096, 4_097, 9_000] {
         let star: Vec<i32> = (0..count).flat_map(|t| [0, t, 1, 1]).collect();
         let wide: Vec<i32> = (0..count)
             .flat_map(|t| [1_000 + t / 256, 60_000 + t % 256, 1_023, 65_535])

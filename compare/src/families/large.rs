@@ -11,7 +11,7 @@ use oracle::reading::MODES;
 /// Lists of up to 1,024 strings, trees of up to 1,024 states.
 pub fn trees(desk: &mut Desk, part: Part) {
     let mut dice = part.dice(16);
-    for _ in 0..part.share(120) {
+    for _ in 0..part.share(400) {
         let lists: Vec<Strings> = (0..3).map(|_| list(&mut dice)).collect();
         let mut all = Lists::default();
         for (production, list) in lists.iter().enumerate() {

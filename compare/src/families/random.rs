@@ -57,14 +57,22 @@ pub fn walks(desk: &mut Desk, part: Part) {
             _ => make::ruled(&mut dice, &size),
         };
         let mut lent = desk.lend(table.lent());
+        let under = table.k.saturating_sub(1);
         for _ in 0..8 {
-            let count = dice.within(0, 20);
+            let any = dice.within(0, 20);
+            let count = dice.pick(&[any, any, any, table.k, under]);
             let tokens = make::tokens(&mut dice, count, size.terminals);
-            let stream = dice.pick(&[16, 16, 16, table.k, 3, usize::MAX]);
+            let stream = dice.pick(&[16, 16, 16, table.k, under, usize::MAX]);
             for mode in MODES {
                 let _ = desk.predict(&mut lent, mode, stream, &tokens);
             }
             desk.explain(&mut lent, &tokens);
+        }
+        // Rising tables may lead back, so that explain goes far.
+        if round % 16 == 0 {
+            let tokens = make::tokens(&mut dice, 2_000, &size.terminals[..1]);
+            desk.explain(&mut lent, &tokens);
+            let _ = desk.predict(&mut lent, Mode::Intake, usize::MAX, &tokens);
         }
     }
 }
