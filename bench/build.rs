@@ -3,10 +3,10 @@ fn main() {
     let top = std::path::Path::new(env!("CARGO_MANIFEST_DIR"))
         .parent()
         .unwrap();
-    println!(
-        "cargo:rustc-link-search=native={}/target/staticlib",
-        top.display()
-    );
+    let folder = top.join("target/staticlib");
+    let library = folder.join("libmeasured.a");
+    println!("cargo:rerun-if-changed={}", library.display());
+    assert!(library.exists(), "run `rt staticlib measured` first");
+    println!("cargo:rustc-link-search=native={}", folder.display());
     println!("cargo:rustc-link-lib=static=measured");
-    println!("cargo:rerun-if-changed=../target/staticlib/libmeasured.a");
 }
