@@ -2,7 +2,8 @@ pub mod Begins
 pub mod Productions
 pub mod Alike
 pub mod Entered
-pub mod Searched
+pub mod Walked
+pub mod Slotted
 pub mod Settling
 pub mod Pass
 pub mod Marking

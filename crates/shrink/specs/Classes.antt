@@ -1,14 +1,14 @@
 -- States that have their marks: each leads to one that is kept and is like it, and no two that are kept are alike.
 use mathlib.Core.Path.{_≡_}
-use mathlib.Core.Bool.{Bool, true, false, cond}
+use mathlib.Core.Bool.{Bool, true, false}
 use mathlib.Core.List.{List, List·Memᴰ}
 use Prim.Native.Nat.{ℕ, _≤_, _<_}
-use lib.Dec.{eqb}
 use lib.ListN.{length, getD, set}
 use Rattle.paper.specs.declared.Mode.{Mode}
 use Rattle.paper.specs.Rows.{Row, Table, states}
 use Rattle.paper.specs.Shrink.{rows-of}
 use Rattle.shrink.specs.Faces.{mark-in, production-at, counted, like, sign}
+use Rattle.shrink.specs.Slots.{empty-in, Stops, Stands}
 
 -- A test tells whether A holds.
 pub record Tells (A : Type 0) (r : Bool) : Type 0 where
@@ -40,30 +40,23 @@ pub record Settled (mode : Mode) (t : Table) (mark : ℕ → ℕ) (done : ℕ �
 abbrev pub From : Table → ℕ → ℕ → Type 0
 From t s u = (s ≤ u) × State t u
 
--- The states from s on have their marks, each the highest of its class; each that is kept has its number in sig.
-pub record Classed (mode : Mode) (t : Table) (sig class : List ℕ) (s : ℕ) : Type 0 where
+-- The states from s on have their marks, each the highest of its class; the slots hold those that are kept.
+pub record Classed (mode : Mode) (t : Table) (slots class : List ℕ) (s : ℕ) : Type 0 where
   pub settled : Settled mode t (mark-in class) (From t s)
   pub highest : (u : ℕ) → From t s u → u ≤ mark-in class u
-  pub numbers : (u : ℕ) → From t s u → mark-in class u ≡ u → getD sig u 0 ≡ sign mode t (mark-in class) u
-  pub holders : (u : ℕ) → u < 1024 → (getD sig u 0 ≡ 65535 → ⊥) → From t s u × (mark-in class u ≡ u)
-  pub sigs : length sig ≡ 1024
+  pub stand : (u : ℕ) → From t s u → mark-in class u ≡ u → Stands slots (sign mode t (mark-in class) u) u
+  pub holders : (i : ℕ) → i < 1024 → (getD slots i 0 ≡ 65535 → ⊥)
+      → From t s (getD slots i 0) × (mark-in class (getD slots i 0) ≡ getD slots i 0)
+  pub room : s ≤ empty-in slots
+  pub sized : length slots ≡ 1024
   pub classes : length class ≡ 1024
 
--- r is a state above s that has the number g and is like s; or s, where there is none.
-pub record Head (same : ℕ → ℕ → Bool) (sig : List ℕ) (top s g r : ℕ) : Type 0 where
-  pub up : s ≤ r
-  pub under : r < top
-  pub hit : s < r → (getD sig r 0 ≡ g) × (same s r ≡ true)
-  pub none : s ≡ r → (c : ℕ) → s < c → c < top → getD sig c 0 ≡ g → same s c ≡ false
-
--- State s got its mark, and its number where it is kept.
-pub record Chosen (mode : Mode) (t : Table) (top : ℕ) (sig class sig′ class′ : List ℕ) (s : ℕ) : Type 0 where
-  pub head : ℕ
-  pub number : ℕ
-  pub numbered : number ≡ sign mode t (mark-in class) s
-  pub found : Head (like mode t (mark-in class)) sig top s number head
-  pub classes : class′ ≡ set class s head
-  pub sigs : sig′ ≡ cond (eqb head s) (set sig s number) sig
+-- State s got its mark: the state in the slot where its walk stops, or itself, put into that slot if it is empty.
+pub record Chosen (mode : Mode) (t : Table) (slots class slots′ class′ : List ℕ) (s : ℕ) : Type 0 where
+  pub at : ℕ
+  pub found : Stops (like mode t (mark-in class)) slots s (sign mode t (mark-in class) s) at
+  pub kept : getD slots at 0 ≡ 65535 → (class′ ≡ set class s s) × (slots′ ≡ set slots at s)
+  pub joined : (getD slots at 0 ≡ 65535 → ⊥) → (class′ ≡ set class s (getD slots at 0)) × (slots′ ≡ slots)
 
 -- All states have their marks, each the highest of its class.
 pub record Classes (mode : Mode) (t : Table) (class : List ℕ) : Type 0 where

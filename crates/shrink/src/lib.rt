@@ -10,6 +10,7 @@ mod emit;
 mod index;
 mod places;
 mod same;
+mod slots;
 
 ghost use mathlib.Core.Path.{_≡_};
 ghost use mathlib.Core.Bool.{false};

@@ -3,7 +3,7 @@ use Prim.Native.Nat.{_+_, _-_, _≤_}
 use native.Mathlib.Omega.{arith}
 use Rattle.shrink.specs.Faces.{coded}
 use Rattle.shrink.specs.Classes.{Classed}
-use Rattle.shrink.proofs.Pass.{pass-start, pass-more, pass-skip, pass-end}
+use Rattle.shrink.proofs.Pass.{pass-start, pass-more, pass-skip, pass-end, pass-open}
 use Rattle.shrink.proofs.classes.classify.Statement.{statement}
 use Rattle.shrink.proofs.classes.classify.Tie as tie
 use Rattle.shrink.proofs.classes.classify.Reads as reads
@@ -12,17 +12,18 @@ use Rattle.shrink.proofs.classes.is_state.Reads as is-state-reads
 use Rattle.shrink.proofs.classes.settle.Reads as settle-reads
 
 abbrev Inv-loop : tie.InvT-loop
-Inv-loop mode p0 rows into first top sig₀ class₀ s₀ sig class s = (s ≤ top) × Classed mode (coded p0 rows) sig class s
+Inv-loop mode p0 rows into first top slots₀ class₀ s₀ slots class s = (s ≤ top)
+    × Classed mode (coded p0 rows) slots class s
 
 abbrev μ-loop : tie.MeasureT-loop
-μ-loop mode p0 rows into first top sig₀ class₀ s₀ sig class s = s
+μ-loop mode p0 rows into first top slots₀ class₀ s₀ slots class s = s
 
 -- src/classes.rt:134:5
 loop-holds : tie.Need-loop-holds Inv-loop μ-loop
 loop-holds c =
     let a = c .args in (
       omega arith,
-      pass-start (a .mode) (coded (a .p0) (a .rows .now)) (a .top) (c .pre .1) (a .sig .now) (a .class .now)
+      pass-start (a .mode) (coded (a .p0) (a .rows .now)) (a .top) (c .pre .1) (a .slots .now) (a .class .now)
           (c .pre .3) (c .pre .4),
     )
 
@@ -41,7 +42,13 @@ settle-requires : tie.Need-settle-requires Inv-loop μ-loop
 settle-requires c κs =
     let l = c .before .before .before .before .before in
     let s = l .before in
-    (s .pre .0, omega arith, s .pre .1 .few)
+    let a = s .args in
+    let e : l .loop .s ≡ l .loop .s - 1 + 1 = omega arith in (
+      s .pre .0,
+      pass-open (a .mode) (coded (a .p0) (a .rows .now)) (a .top) (s .pre .1) (l .loop .slots) (l .loop .class)
+          (l .loop .s - 1) (rw e at (l .loop .inv .1)),
+      omega (arith, s .pre .1 .few),
+    )
 
 -- src/classes.rt:134:5
 loop-less : tie.Need-loop-less Inv-loop μ-loop
@@ -56,7 +63,7 @@ loop-again c =
     let a = s .args in
     let e : l .loop .s ≡ l .loop .s - 1 + 1 = omega arith in (
       omega arith,
-      pass-more (a .mode) (coded (a .p0) (a .rows .now)) (s .pre .2) (a .top) (s .pre .1) (l .loop .sig)
+      pass-more (a .mode) (coded (a .p0) (a .rows .now)) (s .pre .2) (a .top) (s .pre .1) (l .loop .slots)
           (l .loop .class) _ _
           (l .loop .s - 1) (rw e at (l .loop .inv .1))
           (i .is-state .ensures .yes (c .before .before .before .if1 .taken))
@@ -76,7 +83,7 @@ loop-again-2 c =
     let a = s .args in
     let e : l .loop .s ≡ l .loop .s - 1 + 1 = omega arith in (
       omega arith,
-      pass-skip (a .mode) (coded (a .p0) (a .rows .now)) (l .loop .sig) (l .loop .class)
+      pass-skip (a .mode) (coded (a .p0) (a .rows .now)) (l .loop .slots) (l .loop .class)
           (l .loop .s - 1) (rw e at (l .loop .inv .1)) (i .is-state .ensures .no (c .if1 .left)),
     )
 
@@ -86,7 +93,7 @@ returns c =
     let l = c .before in
     let a = l .before .args in
     let e : l .loop .s ≡ 0 = omega arith in
-    pass-end (a .mode) (coded (a .p0) (a .rows .now)) (l .loop .sig) (l .loop .class) (rw e at (l .loop .inv .1))
+    pass-end (a .mode) (coded (a .p0) (a .rows .now)) (l .loop .slots) (l .loop .class) (rw e at (l .loop .inv .1))
 
 pub classify-spec : {M : Type 1} → statement M
 classify-spec =

@@ -1,82 +1,107 @@
-use mathlib.Core.Path.{refl}
+use mathlib.Core.Path.{refl, sym, ap, _∙_}
+use Prim.Native.Nat.{ℕ}
 use native.Mathlib.Omega.{arith}
-use borrow.Author.Tests.{eq-eqb, ne-eqb}
+use lib.ListN.{set}
 use Rattle.shrink.specs.Faces.{coded, mark-in}
 use Rattle.shrink.proofs.Pass.{sign-small}
+use Rattle.shrink.proofs.Slotted.{stop-inside}
 use borrow.Author.Needs.{needs}
 use Rattle.shrink.proofs.classes.settle.Statement.{statement}
 use Rattle.shrink.proofs.classes.settle.Tie as tie
 use Rattle.shrink.proofs.classes.settle.Reads as reads
 use Rattle.shrink.proofs.classes.settle.Lts as lts
-use Rattle.shrink.proofs.classes.head.Reads as head-reads
+use Rattle.shrink.proofs.index.at.Reads as at-reads
 use Rattle.shrink.proofs.same.sign.Reads as sign-reads
+use Rattle.shrink.proofs.slots.find.Reads as find-reads
 
--- src/classes.rt:110:9
+-- src/classes.rt:59:9
 sign-requires : tie.Need-sign-requires
 sign-requires c κs = search needs
 
--- src/classes.rt:111:9
-head-requires : tie.Need-head-requires
-head-requires c κs = search needs
+-- src/classes.rt:60:9
+find-requires : tie.Need-find-requires
+find-requires c κs =
+    let g = c .before .before in
+    let s = g .before .before in
+    let a = s .args in (
+      s .pre .0,
+      s .pre .1,
+      s .pre .2,
+      omega (
+        arith,
+        g .sign .ensures,
+        sign-small (a .mode) (coded (a .p0) (a .rows .now)) (mark-in (a .class .now))
+            (a .s),
+      ),
+    )
 
--- src/classes.rt:112:16
+-- src/classes.rt:61:9
+at-requires : tie.Need-at-requires
+at-requires c κs = stop-inside (c .before .find .ensures)
+
+-- src/classes.rt:63:21
+cast-slots : tie.Need-cast-slots
+cast-slots c = search needs
+
+-- src/classes.rt:63:9
+mul-slots : tie.Need-mul-slots
+mul-slots c = omega (arith, stop-inside (c .before .before .before .find .ensures))
+
+-- src/classes.rt:63:9
+element-write-slots : tie.Need-element-write-slots
+element-write-slots c = stop-inside (c .before .before .before .find .ensures)
+
+-- src/classes.rt:64:20
 cast-class : tie.Need-cast-class
 cast-class c = search needs
 
--- src/classes.rt:112:5
+-- src/classes.rt:64:9
 mul-class : tie.Need-mul-class
 mul-class c = search needs
 
--- src/classes.rt:112:5
+-- src/classes.rt:64:9
 element-write-class : tie.Need-element-write-class
 element-write-class c = search needs
 
--- src/classes.rt:114:18
-cast-sig : tie.Need-cast-sig
-cast-sig c =
-    let g = c .before .before .before .before in
-    let a = g .before .before .args in
-    omega (
-      arith,
-      g .sign .ensures,
-      sign-small (a .mode) (coded (a .p0) (a .rows .now)) (mark-in (a .class .now))
-          (a .s),
-    )
+-- src/classes.rt:66:20
+cast-class-2 : tie.Need-cast-class-2
+cast-class-2 c = search needs
 
--- src/classes.rt:114:9
-mul-sig : tie.Need-mul-sig
-mul-sig c = search needs
+-- src/classes.rt:66:9
+mul-class-2 : tie.Need-mul-class-2
+mul-class-2 c = search needs
 
--- src/classes.rt:114:9
-element-write-sig : tie.Need-element-write-sig
-element-write-sig c = search needs
+-- src/classes.rt:66:9
+element-write-class-2 : tie.Need-element-write-class-2
+element-write-class-2 c = search needs
 
--- src/classes.rt:95:1
+-- src/classes.rt:45:1
 returns : tie.Need-returns
 returns c =
     let h = c .before in
-    let g = h .before .before .before in
+    let f = h .before .before in
+    let g = f .before .before .before in
+    let e = h .at .ensures .0 in
     record {
-      head = h .head .result;
-      number = g .sign .result;
-      numbered = g .sign .ensures;
-      found = h .head .ensures;
-      classes = refl;
-      sigs = simp (eq-eqb _ _ (c .if1 .taken));
+      at = f .find .result;
+      found = rw (← g .sign .ensures) (f .find .ensures);
+      kept = λ z. (refl, refl);
+      joined = λ d. absurd (d (sym e ∙ c .if1 .taken));
     }
 
--- src/classes.rt:95:1
+-- src/classes.rt:45:1
 returns-2 : tie.Need-returns-2
 returns-2 c =
     let h = c .before in
-    let g = h .before .before .before in
+    let f = h .before .before in
+    let g = f .before .before .before in
+    let a = g .before .before .args in
+    let e = h .at .ensures .0 in
     record {
-      head = h .head .result;
-      number = g .sign .result;
-      numbered = g .sign .ensures;
-      found = h .head .ensures;
-      classes = refl;
-      sigs = simp (ne-eqb _ _ (c .if1 .left));
+      at = f .find .result;
+      found = rw (← g .sign .ensures) (f .find .ensures);
+      kept = λ z. absurd (c .if1 .left (e ∙ z));
+      joined = λ d. (ap (λ (x : ℕ). set (a .class .now) (a .s) x) e, refl);
     }
 
 pub settle-spec : {M : Type 1} → statement M
@@ -84,12 +109,16 @@ settle-spec =
     tie.close
     (tie.spec
     sign-requires
-    head-requires
+    find-requires
+    at-requires
+    cast-slots
+    mul-slots
+    element-write-slots
     cast-class
     mul-class
     element-write-class
-    cast-sig
-    mul-sig
-    element-write-sig
+    cast-class-2
+    mul-class-2
+    element-write-class-2
     returns
     returns-2)
