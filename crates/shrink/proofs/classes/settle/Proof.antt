@@ -49,7 +49,7 @@ mul-slots c = omega (arith, stop-inside (c .before .before .before .find .ensure
 
 -- src/classes.rt:63:9
 element-write-slots : tie.Need-element-write-slots
-element-write-slots c = stop-inside (c .before .before .before .find .ensures)
+element-write-slots c = omega (arith, stop-inside (c .before .before .before .find .ensures))
 
 -- src/classes.rt:64:20
 cast-class : tie.Need-cast-class

@@ -47,7 +47,7 @@ slot-requires-2 c κs =
     let m = c .before in
     let l = m .before in
     let s = l .before .before in
-    (s .pre .3, walk-near (l .loop .inv) (sym (m .passes .ensures) ∙ c .if1 .taken) (s .pre .1))
+    (s .pre .3, omega (arith, walk-near (l .loop .inv) (sym (m .passes .ensures) ∙ c .if1 .taken) (s .pre .1)))
 
 -- src/slots.rt:61:5
 loop-less : tie.Need-loop-less Inv-loop μ-loop

@@ -1,4 +1,5 @@
 use mathlib.Core.Path.{_∙_}
+use native.Mathlib.Omega.{arith}
 use Rattle.shrink.specs.Faces.{coded, mark-in, like}
 use borrow.Author.Needs.{needs}
 use Rattle.shrink.proofs.Slotted.{passes-empty, passes-held}
@@ -26,7 +27,8 @@ like-requires c κs =
     let x = c .before in
     let p = x .before .pre in
     let e = x .at .ensures .0 in
-    (p .0, p .2, rw e (p .1 .small (x .before .args .at) (p .3) (λ z. c .if1 .left (e ∙ z))))
+    let l = p .1 .small (x .before .args .at) (p .3) (λ z. c .if1 .left (e ∙ z)) in
+    (p .0, omega (arith, p .2, e, l), omega (arith, p .2, e, l))
 
 -- src/slots.rt:21:1
 returns-2 : tie.Need-returns-2
