@@ -1,10 +1,19 @@
 -- The slots that a walk meets: within 1,024 steps, every one, since a step is odd.
 -- Assumes nothing.
-use mathlib.Core.Path.{_≡_, sym, ap, _∙_}
-use Prim.Native.Nat.{ℕ, _+_, _*_, _/_, _%_, _<_, _≤_}
+use mathlib.Core.Path.{_≡_, sym, ap, _∙_, subst}
+use Prim.Native.Nat.{ℕ, zero, suc, _+_, _*_, _/_, _%_, _^_, _<_, _≤_}
 use native.Mathlib.Omega.{arith}
-use native.Mathlib.Nat.{add-mul, mul-comm, mul-le-mul, add-mul-div-right, add-mul-mod-self-right, mod-eq-of-lt}
+use native.Mathlib.Nat.{
+  add-mul,
+  mul-comm,
+  mul-le-mul,
+  add-mul-div-right,
+  add-mul-mod-self-right,
+  mod-eq-of-lt,
+  pow-succ',
+}
 use lib.Arith.{mod-mul}
+use lib.Pow.{pow-pos}
 use Rattle.ruled.proofs.Arrays.{by-equal}
 use Rattle.shrink.specs.Slots.{slot}
 
@@ -12,7 +21,7 @@ pub slot-small : (g d : ℕ) → slot g d < 1024
 unfolding slot
 slot-small g d = omega arith
 
--- a step of a walk is short
+-- d steps are not long
 pub step-short : (g d : ℕ) → g < 65521 → d < 1024 → d * (g / 1024 * 2 + 1) ≤ 1024 * 128
 step-short g d l m =
     let a : d ≤ 1024 = omega arith in
@@ -56,21 +65,12 @@ module _ (x w i : ℕ) where
           ∙ ap (λ (k : ℕ). i / c % 2 * c + k) r
           ∙ sym (mod-mul i {m = 2} {c = c} (omega arith) p)
 
-  all : Met 1024
-  all =
-      let a : Met 1 = (0, omega arith, omega arith) in
-      let b : Met 2 = double 1 (omega arith) a in
-      let c : Met 4 = double 2 (omega arith) b in
-      let d : Met 8 = double 4 (omega arith) c in
-      let e : Met 16 = double 8 (omega arith) d in
-      let f : Met 32 = double 16 (omega arith) e in
-      let g : Met 64 = double 32 (omega arith) f in
-      let h : Met 128 = double 64 (omega arith) g in
-      let j : Met 256 = double 128 (omega arith) h in
-      double 512 (omega arith) (double 256 (omega arith) j)
+  powers : (k : ℕ) → Met (2 ^ k)
+  powers zero = (0, omega arith, omega arith)
+  powers (suc k) = subst Met (sym (pow-succ' 2 k)) (double (2 ^ k) (pow-pos k) (powers k))
 
 pub slot-met : (g i : ℕ) → i < 1024 → (d : ℕ) × (d < 1024) × (slot g d ≡ i)
 unfolding slot
 slot-met g i l =
-    let (d, m, e) = all g (g / 1024) i in
+    let (d, m, e) = powers g (g / 1024) i 10 in
     (d, m, e ∙ mod-eq-of-lt l)
