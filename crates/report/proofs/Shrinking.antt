@@ -27,6 +27,7 @@ use Rattle.text.proofs.Back.{passes}
 use Rattle.report.specs.declared.lines.Sizes.{Sizes}
 use Rattle.report.specs.Printed.{Small, three}
 use Rattle.report.specs.Rulings.{Taken, Sized, of-table}
+use Rattle.report.proofs.Refused.{refused-is}
 
 -- the heading of what shrink makes
 abbrev heading : answers.Made → Heading
@@ -55,12 +56,8 @@ module _ {p : ℤ} {k : ℕ} {ns : List ℤ} (taken : Taken p k ns) where
   module _ (mode : Mode) (room : ℕ) (l : 16384 ≤ room) {old new : List ℤ} where
     pub shrunk-refused : (f : Refusal) → Makes (shrink mode p k ns room) (Refused f) old new →
         shrink-table mode (table p k ns) ≡ refuse (number f) (detail f)
-    shrunk-refused f m = sym (shrink-is mode room l) ∙ go (shrink mode p k ns room) (m .says)
-      where
-        go : (r : Ruling answers.Made) → refuse (number f) (detail f) ≡ then r (λ x. accept (heading x)) →
-            r ≡ refuse (number f) (detail f)
-        go (accept x) e = refuse-accept e
-        go (refuse n d) e = let a : n ≡ number f = cc in let b : d ≡ detail f = cc in rw (a, b)
+    shrunk-refused f m =
+        sym (shrink-is mode room l) ∙ refused-is heading (shrink mode p k ns room) (number f) (detail f) (m .says)
 
     pub shrunk-sized : (q : ℤ) (j n s : ℕ) → Makes (shrink mode p k ns room) (Made q j n s) old new →
         Sized mode (table p k ns) (record { states = s; rows = n })

@@ -6,7 +6,6 @@ use paper::Reading;
 use paper::Refusal;
 
 mod lines;
-mod writing;
 
 ghost use mathlib.Core.Path.{_≡_};
 ghost use Prim.Native.Nat.{_≤_};

@@ -1,6 +1,6 @@
 // The lines that are printed.
-use crate::writing;
 use paper::Refusal;
+use text::writing;
 ghost use Prim.Native.Nat.{_+_, _≤_};
 ghost use lib.ListN.{length};
 ghost use Rattle.paper.specs.Answers.{number, detail, refuse};

@@ -26,13 +26,13 @@ passes true n r a e = refuse-accept e
 passes false n r a e = (refl, e)
 
 -- the checks of a table that text in accepts
-record Passed (t : List ℕ) (tb : Table) : Type 0 where
-  read : read-lines (lines t) ≡ accept tb
-  few : length (tb .rows) ≤ 4096
-  ranged : range tb ≡ false
-  ordered : order tb ≡ false
+pub record Passed (t : List ℕ) (tb : Table) : Type 0 where
+  pub read : read-lines (lines t) ≡ accept tb
+  pub few : length (tb .rows) ≤ 4096
+  pub ranged : range tb ≡ false
+  pub ordered : order tb ≡ false
 
-passed : (t : List ℕ) (room : ℕ) (tb : Table) → text-in t room ≡ accept tb → Passed t tb
+pub passed : (t : List ℕ) (room : ℕ) (tb : Table) → text-in t room ≡ accept tb → Passed t tb
 unfolding text-in
 passed t room tb e = go (read-lines (lines t)) refl (passes (little-room room) 1 _ tb e .1)
   where

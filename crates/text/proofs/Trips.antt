@@ -1,18 +1,19 @@
 -- The two calls, one after the other: what the answers and the outputs then are. Assumes nothing.
 use mathlib.Core.Path.{_≡_, refl, ap, sym, _∙_}
-use mathlib.Core.List.{List, [], _∷_, _++_}
+use mathlib.Core.List.{List}
 use Prim.Native.Nat.{ℕ, _+_, _*_, _/_, _<_, _≤_}
 use native.Mathlib.Omega.{arith}
-use lib.ListN.{length, take, drop}
+use lib.ListN.{length, take, drop, length-append}
 use lib.Seq.{take-at}
 use lib.IntN.{ℤ}
-use Rattle.paper.specs.Rows.{Row, Table, table, numbers, signed}
+use Rattle.paper.specs.Rows.{Table, table, numbers, signed}
 use Rattle.paper.specs.Answers.{Ruling, accept, refuse, Title, Reads, Writes}
 use Rattle.paper.specs.Text.{text-in, text-out}
 use Rattle.paper.specs.declared.Reading.{Reading}
 use Rattle.paper.specs.declared.Reading.the-variants as reading
 use Rattle.paper.specs.declared.Writing.{Writing}
 use Rattle.paper.specs.declared.Writing.the-variants as writing
+use Rattle.laws.proofs.RowNumbers.{length-numbers}
 use Rattle.text.proofs.Never.{refuse-accept}
 use Rattle.text.proofs.Forth.{written-is-read}
 use Rattle.text.proofs.Back.{read-is-written}
@@ -49,21 +50,19 @@ written-then-read p k ns n old new answer before after w r h =
     rw e at r
 
 -- what an accepted text in wrote
-record Rows (ruling : Ruling Table) (p : ℤ) (k m : ℕ) (old new : List ℤ) : Type 0 where
-  table : Table
-  ruled : ruling ≡ accept table
-  prod0 : signed (table .prod0) ≡ p
-  count : table .k ≡ k
-  front : take (m * 4) new ≡ numbers (table .rows)
-
-four-each : (rs : List Row) → length (numbers rs) ≡ length rs * 4
-four-each [] = refl
-four-each (r ∷ rs) = omega (arith, four-each rs)
+pub record Rows (ruling : Ruling Table) (p : ℤ) (k m : ℕ) (old new : List ℤ) : Type 0 where
+  pub table : Table
+  pub ruled : ruling ≡ accept table
+  pub prod0 : signed (table .prod0) ≡ p
+  pub count : table .k ≡ k
+  pub size : length (table .rows) ≡ m
+  pub room : m * 4 ≤ length new
+  pub front : take (m * 4) new ≡ numbers (table .rows)
 
 same-title : (x y : Title) → accept x ≡ accept y → x ≡ y
 same-title x y e = cc
 
-of-rows : (ruling : Ruling Table) (p : ℤ) (k m : ℕ) (old new : List ℤ) → Reads ruling (reading.Read p k m) old new →
+pub of-rows : (ruling : Ruling Table) (p : ℤ) (k m : ℕ) (old new : List ℤ) → Reads ruling (reading.Read p k m) old new →
     Rows ruling p k m old new
 of-rows (accept tb) p k m old new r =
     let given : Title = record { prod0 = p; k = k; rows = m } in
@@ -71,13 +70,15 @@ of-rows (accept tb) p k m old new r =
     let q : read ≡ given = sym (same-title given read (r .says)) in
     let c : length (tb .rows) ≡ m = ap (λ (x : Title). x .rows) q in
     let ns = numbers (tb .rows) in
+    let four : length ns ≡ m * 4 = omega (arith, length-numbers (tb .rows)) in
     record {
       table = tb;
       ruled = refl;
       prod0 = ap (λ (x : Title). x .prod0) q;
       count = ap (λ (x : Title). x .k) q;
-      front = ap (take (m * 4)) (r .holds)
-          ∙ take-at ns (drop (length ns) old) (m * 4) (omega (arith, four-each (tb .rows)));
+      size = c;
+      room = omega (arith, ap length (r .holds), length-append ns (drop (length ns) old));
+      front = ap (take (m * 4)) (r .holds) ∙ take-at ns (drop (length ns) old) (m * 4) four;
     }
 of-rows (refuse n d) p k m old new r = refuse-accept (sym (r .says))
 

@@ -11,7 +11,7 @@ mod passes;
 mod pieces;
 mod reader;
 mod reading;
-mod writing;
+pub mod writing;
 
 ghost use mathlib.Core.Path.{_≡_};
 ghost use mathlib.Core.Bool.{_&&_};

@@ -13,7 +13,7 @@ ghost use Rattle.text.specs.Put.{Puts};
 ghost use Rattle.text.specs.Written.{head-text, row-text, rows-text, row};
 
 // A word.
-fn put_word(out: &mut [u8], at: usize, word: &[u8]) -> usize
+pub fn put_word(out: &mut [u8], at: usize, word: &[u8]) -> usize
     requires { ⌜ at + length (now word) ≤ length (now out) ⌝ }
     ensures { λ r. ⌜ Puts (now (out .entry)) at (length (now (word .entry))) (now (word .entry)) (now (out .exit)) r ⌝ }
 {
@@ -73,7 +73,7 @@ fn put_production(out: &mut [u8], at: usize, code: usize) -> usize
 }
 
 // A word and the number after it.
-fn put_field(out: &mut [u8], at: usize, word: &[u8], n: usize) -> usize
+pub fn put_field(out: &mut [u8], at: usize, word: &[u8], n: usize) -> usize
     requires { ⌜ (at + (length (now word) + 5) ≤ length (now out)) × (n < 100000) ⌝ }
     ensures { λ r. ⌜ Puts (now (out .entry)) at (length (now (word .entry)) + 5)
         (now (word .entry) ++ digits 5 n) (now (out .exit)) r ⌝ }
