@@ -89,8 +89,7 @@ fn with_table(input: &[u8], buf: &mut [i32], spare: &mut [i32], out: &mut [u8]) 
 }
 
 // What is printed for a text, at the front of the output, and how many bytes it is.
-pub fn report(input: &[u8], out: &mut [u8]) -> usize
-    requires { ⌜ 64 ≤ length (now out) ⌝ }
+pub fn report(input: &[u8], out: &mut [u8; 64]) -> usize
     ensures { λ r. ⌜ Prints (tabrep (now (input .entry))) (now (out .entry)) (now (out .exit)) r ⌝ }
 {
     if 65536 < input.len() {

@@ -8,13 +8,10 @@ use Rattle.report.proofs.report.Tie as tie
 put-refused-requires : tie.Need-put-refused-requires
 put-refused-requires c κs = search needs
 
-same-length : tie.Need-same-length
-same-length c = search needs
-
 returns : tie.Need-returns
 returns c =
-    let s = c .before .before .before .before .before .before .before in
-    prints (c .before .before .put-refused .ensures) (too-long (s .args .input .now) (omega arith))
+    let s = c .before .before .before .before in
+    prints (c .put-refused .ensures) (too-long (s .args .input .now) (omega arith))
 
 slice-aggregate-with-table : tie.Need-slice-aggregate-with-table
 slice-aggregate-with-table c = search needs
@@ -25,24 +22,18 @@ slice-aggregate-with-table-2 c = search needs
 with-table-requires : tie.Need-with-table-requires
 with-table-requires c κs = search needs
 
-same-length-2 : tie.Need-same-length-2
-same-length-2 c = search needs
-
 returns-2 : tie.Need-returns-2
 returns-2 c =
-    let w = c .before .before .before .before in
-    let s = w .before .before .before .before .before .before .before in
-    prints-as (w .with-table .ensures) (by-text (s .args .input .now) (omega arith))
+    let s = c .before .before .before .before .before .before .before .before in
+    prints-as (c .before .before .with-table .ensures) (by-text (s .args .input .now) (omega arith))
 
 pub report-spec : {M : Type 1} → statement M
 report-spec =
     tie.close
     (tie.spec
     put-refused-requires
-    same-length
     returns
     slice-aggregate-with-table
     slice-aggregate-with-table-2
     with-table-requires
-    same-length-2
     returns-2)
