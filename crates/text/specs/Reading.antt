@@ -7,6 +7,8 @@ use lib.Dec.{eqb, ltb}
 use Rattle.paper.specs.Words.{bytes}
 use Rattle.text.specs.declared.pieces.Number.{Number}
 use Rattle.text.specs.declared.pieces.Number.the-variants as number
+use Rattle.text.specs.declared.ends.Line.{Line}
+use Rattle.text.specs.declared.ends.Line.the-variants.{Ended, Open}
 use Rattle.text.specs.declared.reading.RowLine.{RowLine}
 use Rattle.text.specs.declared.reading.RowLine.the-variants as row-line
 use Rattle.text.specs.declared.reading.HeadLine.{HeadLine}
@@ -42,6 +44,10 @@ front (b ∷ bs) = cond (eqb b 10) [] (b ∷ front bs)
 -- Where the line from a place on ends: at its LF, or with the text.
 unfoldable pub line-end : List ℕ → ℕ → ℕ
 line-end t at = at + length (front (drop at t))
+
+-- The line from a place on, by the place of its LF.
+unfoldable pub line-from : List ℕ → ℕ → Line
+line-from t at = cond (ltb (line-end t at) (length t)) (Ended (line-end t at)) Open
 
 -- The row whose line begins at a place.
 unfoldable pub row-from : List ℕ → ℕ → RowLine

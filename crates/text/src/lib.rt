@@ -7,6 +7,7 @@ use paper::Writing;
 use rows::checks;
 use rows::numbers;
 
+mod ends;
 mod passes;
 mod pieces;
 mod reader;
@@ -62,7 +63,7 @@ pub fn text_in(text: &[u8], out: &mut [i32]) -> Reading
     if out.len() < 16384 {
         return Reading::Refused(Refusal::Length);
     }
-    let HeadLine::Head(code, k, next) = reader::head_at(text, 0) else {
+    let HeadLine::Head(code, k, next) = reading::head_from(text, 0) else {
         return Reading::Refused(Refusal::Text(0));
     };
     let tally = match passes::scan(text, next) {

@@ -1,5 +1,5 @@
 // Text in: the pass that looks at every row, and the pass that writes them.
-use crate::reader;
+use crate::reading;
 use crate::reading::RowLine;
 use rows::numbers;
 ghost use mathlib.Core.Path.{_≡_};
@@ -77,7 +77,7 @@ pub fn scan(text: &[u8], at: usize) -> Pass
     };
     let mut place = at;
     while place < text.len() {
-        let RowLine::Row(from, on, to, code, next) = reader::row_at(text, place) else {
+        let RowLine::Row(from, on, to, code, next) = reading::row_from(text, place) else {
             return Pass::Bad(place);
         };
         tally = tallied(tally, from, on, to, code);
@@ -105,7 +105,7 @@ pub fn fill(text: &[u8], at: usize, out: &mut [i32])
     let mut place = at;
     let mut i = 0;
     while place < text.len() {
-        let RowLine::Row(from, on, to, code, next) = reader::row_at(text, place) else {
+        let RowLine::Row(from, on, to, code, next) = reading::row_from(text, place) else {
             return;
         };
         put_numbers(out, i, from, on, to, code);

@@ -1,10 +1,12 @@
 // Text in: lines, each at a place of the text.
+use crate::ends::Line;
 use crate::pieces;
 use crate::pieces::Number;
+use crate::reader;
 ghost use mathlib.Core.Path.{_≡_};
 ghost use Prim.Native.Nat.{_+_, _<_, _≤_};
 ghost use lib.ListN.{length, drop};
-ghost use Rattle.text.specs.Reading.{row-of, head-of, line-end, row-from, head-from};
+ghost use Rattle.text.specs.Reading.{row-of, head-of, row-from, head-from};
 
 // A row's from, terminal, to and its production's code, and the place of the line after it.
 pub enum RowLine {
@@ -56,28 +58,13 @@ fn head_of(line: &[u8], next: usize) -> HeadLine
     HeadLine::Head(code, k, next)
 }
 
-// Where the line from a place on ends: at its LF, or with the text.
-fn line_end(text: &[u8], at: usize) -> usize
-    ensures { λ r. ⌜ (r ≡ line-end (now (text .entry)) at) × (at ≤ r) ⌝ }
-{
-    let mut end = at;
-    while end < text.len() {
-        if text[end] == 10 {
-            return end;
-        }
-        end += 1;
-    }
-    end
-}
-
 // The row whose line begins at a place.
 pub fn row_from(text: &[u8], at: usize) -> RowLine
     ensures { λ r. ⌜ r ≡ row-from (now (text .entry)) at ⌝ }
 {
-    let end = line_end(text, at);
-    if text.len() <= end {
+    let Line::Ended(end) = reader::line_at(text, at) else {
         return RowLine::Bad;
-    }
+    };
     row_of(&text[at..end], end + 1)
 }
 
@@ -85,9 +72,8 @@ pub fn row_from(text: &[u8], at: usize) -> RowLine
 pub fn head_from(text: &[u8], at: usize) -> HeadLine
     ensures { λ r. ⌜ r ≡ head-from (now (text .entry)) at ⌝ }
 {
-    let end = line_end(text, at);
-    if text.len() <= end {
+    let Line::Ended(end) = reader::line_at(text, at) else {
         return HeadLine::Bad;
-    }
+    };
     head_of(&text[at..end], end + 1)
 }

@@ -25,8 +25,8 @@ use Rattle.text.proofs.text_in.Tie as tie
 returns : tie.Need-returns
 returns c = refused Length (in-room _ _ (c .if1 .taken))
 
-head-at-requires : tie.Need-head-at-requires
-head-at-requires c κs = search needs
+head-from-requires : tie.Need-head-from-requires
+head-from-requires c κs = search needs
 
 enum-known-code : tie.Need-enum-known-code
 enum-known-code c = search needs
@@ -38,14 +38,14 @@ returns-2 : tie.Need-returns-2
 returns-2 c =
     let h = c .before .before in
     let t = h .before .before .before .args .text .now in
-    refused (Text 0) (in-head t _ (h .before .if1 .left) (sym (h .head-at .ensures) ∙ c .enum-told .given .1))
+    refused (Text 0) (in-head t _ (h .before .if1 .left) (sym (h .head-from .ensures) ∙ c .enum-told .given .1))
 
 scan-requires : tie.Need-scan-requires
 scan-requires c κs =
     let v = c .before in
     let h = v .before .before in
     let t = h .before .before .before .args .text .now in
-    head-from-at t _ _ _ (sym (h .head-at .ensures) ∙ v .code .given .1) .inside
+    head-from-at t _ _ _ (sym (h .head-from .ensures) ∙ v .code .given .1) .inside
 
 enum-known-tally : tie.Need-enum-known-tally
 enum-known-tally c = search needs
@@ -60,7 +60,7 @@ returns-3 c =
     let h = v .before .before in
     let t = h .before .before .before .args .text .now in
     let wide = h .before .if1 .left in
-    let head = sym (h .head-at .ensures) ∙ v .code .given .1 in
+    let head = sym (h .head-from .ensures) ∙ v .code .given .1 in
     let e = sym (r .scan .ensures) ∙ ap scanned (c .before .at .given .1) in
     refused (Text _) (in-bad t _ wide _ _ _ head _ e)
 
@@ -72,7 +72,7 @@ returns-4 c =
     let h = v .before .before in
     let t = h .before .before .before .args .text .now in
     let wide = h .before .if1 .left in
-    let head = sym (h .head-at .ensures) ∙ v .code .given .1 in
+    let head = sym (h .head-from .ensures) ∙ v .code .given .1 in
     let e = sym (r .scan .ensures) ∙ ap scanned (s .tally .given .1) in
     refused Length (in-many t _ wide _ _ _ head _ e (c .if2 .taken))
 
@@ -87,7 +87,7 @@ returns-5 c =
     let h = v .before .before in
     let t = h .before .before .before .args .text .now in
     let wide = h .before .if1 .left in
-    let head = sym (h .head-at .ensures) ∙ v .code .given .1 in
+    let head = sym (h .head-from .ensures) ∙ v .code .given .1 in
     let e = sym (r .scan .ensures) ∙ ap scanned (s .tally .given .1) in
     let q = c .before in
     let out = sym (q .ranged .ensures) ∙ not-true (q .ranged .result) (c .if3 .taken) in
@@ -101,7 +101,7 @@ returns-6 c =
     let h = v .before .before in
     let t = h .before .before .before .args .text .now in
     let wide = h .before .if1 .left in
-    let head = sym (h .head-at .ensures) ∙ v .code .given .1 in
+    let head = sym (h .head-from .ensures) ∙ v .code .given .1 in
     let e = sym (r .scan .ensures) ∙ ap scanned (s .tally .given .1) in
     let q = c .before .before .before in
     let ranged = sym (q .ranged .ensures) ∙ not-false (q .ranged .result) (c .before .before .if3 .left) in
@@ -116,7 +116,7 @@ fill-requires c κs =
     let h = v .before .before in
     let t = h .before .before .before .args .text .now in
     let wide = h .before .if1 .left in
-    let head = sym (h .head-at .ensures) ∙ v .code .given .1 in
+    let head = sym (h .head-from .ensures) ∙ v .code .given .1 in
     let e = sym (r .scan .ensures) ∙ ap scanned (s .tally .given .1) in
     let q = c .before .before .before .before in
     let ranged = sym (q .ranged .ensures) ∙ not-false (q .ranged .result) (c .before .before .before .if3 .left) in
@@ -130,7 +130,7 @@ production-of-requires c κs =
     let h = v .before .before in
     let t = h .before .before .before .args .text .now in
     let wide = h .before .if1 .left in
-    let head = sym (h .head-at .ensures) ∙ v .code .given .1 in
+    let head = sym (h .head-from .ensures) ∙ v .code .given .1 in
     let e = sym (r .scan .ensures) ∙ ap scanned (s .tally .given .1) in
     let q = c .before .before .before .before .before .before in
     let ranged =
@@ -149,7 +149,7 @@ returns-7 c =
     let h = v .before .before in
     let t = h .before .before .before .args .text .now in
     let wide = h .before .if1 .left in
-    let head = sym (h .head-at .ensures) ∙ v .code .given .1 in
+    let head = sym (h .head-from .ensures) ∙ v .code .given .1 in
     let e = sym (r .scan .ensures) ∙ ap scanned (s .tally .given .1) in
     let q = c .before .before .before .before .before .before .before in
     let ranged =
@@ -166,7 +166,7 @@ text-in-spec =
     tie.close
     (tie.spec
     returns
-    head-at-requires
+    head-from-requires
     enum-known-code
     enum-told
     returns-2

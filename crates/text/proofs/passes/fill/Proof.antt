@@ -32,8 +32,8 @@ loop-holds c =
     let z : length (g .args .out .now) - 0 ≡ length (g .args .out .now) = omega arith in
     (omega arith, omega arith, refl, rw z (g .pre .1), refl)
 
-row-at-requires : tie.Need-row-at-requires Inv-loop μ-loop
-row-at-requires c κs = search needs
+row-from-requires : tie.Need-row-from-requires Inv-loop μ-loop
+row-from-requires c κs = search needs
 
 enum-known-from : tie.Need-enum-known-from Inv-loop μ-loop
 enum-known-from c = search needs
@@ -50,7 +50,7 @@ returns c =
     let a = b .before .before .args in
     let r = c .before .before in
     no-bad (a .text .now) (b .loop .place) _ (omega arith) (b .loop .inv .3)
-    (sym (r .row-at .ensures) ∙ c .enum-told .given .1)
+    (sym (r .row-from .ensures) ∙ c .enum-told .given .1)
 
 put-numbers-requires : tie.Need-put-numbers-requires Inv-loop μ-loop
 put-numbers-requires c κs =
@@ -60,7 +60,7 @@ put-numbers-requires c κs =
     let t = b .before .before .args .text .now in
     let p = b .loop .place in
     let ready = b .loop .inv .3 in
-    let e = sym (r .row-at .ensures) ∙ v .from .given .1 in
+    let e = sym (r .row-from .ensures) ∙ v .from .given .1 in
     let room = row-room t p _ (omega arith) ready _ _ _ _ _ e in
     let f : Fit _ = fit _ (row-fit t p _ (omega arith) ready _ _ _ _ _ e) in (
       omega arith,
@@ -77,7 +77,7 @@ add-i c =
     let r = v .before .before in
     let b = r .before .before in
     let t = b .before .before .args .text .now in
-    let e = sym (r .row-at .ensures) ∙ v .from .given .1 in
+    let e = sym (r .row-from .ensures) ∙ v .from .given .1 in
     let room = row-room t (b .loop .place) _ (omega arith) (b .loop .inv .3) _ _ _ _ _ e in
     omega arith
 
@@ -87,7 +87,7 @@ loop-less c =
     let r = v .before .before in
     let b = r .before .before in
     let t = b .before .before .args .text .now in
-    let h = row-from-at t (b .loop .place) _ _ _ _ _ (sym (r .row-at .ensures) ∙ v .from .given .1) in
+    let h = row-from-at t (b .loop .place) _ _ _ _ _ (sym (r .row-from .ensures) ∙ v .from .given .1) in
     omega (arith, h .later, h .inside)
 
 loop-again : tie.Need-loop-again Inv-loop μ-loop
@@ -99,7 +99,7 @@ loop-again c =
     let t = b .before .before .args .text .now in
     let p = b .loop .place in
     let ready = b .loop .inv .3 in
-    let e = sym (r .row-at .ensures) ∙ v .from .given .1 in
+    let e = sym (r .row-from .ensures) ∙ v .from .given .1 in
     let h = row-from-at t p _ _ _ _ _ e in
     let room = row-room t p _ (omega arith) ready _ _ _ _ _ e in
     let q = w .put-numbers .ensures in
@@ -131,7 +131,7 @@ fill-spec =
     Inv-loop
     μ-loop
     loop-holds
-    row-at-requires
+    row-from-requires
     enum-known-from
     enum-told
     same-length

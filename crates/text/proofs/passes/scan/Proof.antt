@@ -22,8 +22,8 @@ abbrev μ-loop : tie.MeasureT-loop
 loop-holds : tie.Need-loop-holds Inv-loop μ-loop
 loop-holds c = (omega arith, omega arith, refl)
 
-row-at-requires : tie.Need-row-at-requires Inv-loop μ-loop
-row-at-requires c κs = search needs
+row-from-requires : tie.Need-row-from-requires Inv-loop μ-loop
+row-from-requires c κs = search needs
 
 enum-known-from : tie.Need-enum-known-from Inv-loop μ-loop
 enum-known-from c = search needs
@@ -36,7 +36,7 @@ returns c =
     let b = c .before .before .before .before in
     let a = b .before .before .args in
     let r = c .before .before in
-    let e = sym (r .row-at .ensures) ∙ c .enum-told .given .1 in
+    let e = sym (r .row-from .ensures) ∙ c .enum-told .given .1 in
     sym (b .loop .inv .2 ∙ tally-bad (a .text .now) (b .loop .place) (b .loop .tally) (omega arith) e)
 
 tallied-requires : tie.Need-tallied-requires Inv-loop μ-loop
@@ -45,7 +45,7 @@ tallied-requires c κs =
     let r = v .before .before in
     let b = r .before .before in
     let a = b .before .before .args in
-    let e = sym (r .row-at .ensures) ∙ v .from .given .1 in
+    let e = sym (r .row-from .ensures) ∙ v .from .given .1 in
     let h = row-from-at (a .text .now) (b .loop .place) _ _ _ _ _ e in
     (omega arith, h .small .from, h .small .on)
 
@@ -55,7 +55,7 @@ loop-less c =
     let r = v .before .before in
     let b = r .before .before in
     let a = b .before .before .args in
-    let e = sym (r .row-at .ensures) ∙ v .from .given .1 in
+    let e = sym (r .row-from .ensures) ∙ v .from .given .1 in
     let h = row-from-at (a .text .now) (b .loop .place) _ _ _ _ _ e in
     omega (arith, h .later, h .inside)
 
@@ -65,7 +65,7 @@ loop-again c =
     let r = v .before .before in
     let b = r .before .before in
     let a = b .before .before .args in
-    let e = sym (r .row-at .ensures) ∙ v .from .given .1 in
+    let e = sym (r .row-from .ensures) ∙ v .from .given .1 in
     let h = row-from-at (a .text .now) (b .loop .place) _ _ _ _ _ e in
     let q : c .tallied .result .rows ≡ b .loop .tally .rows + 1 =
     ap (λ (s : Tally). s .rows) (c .tallied .ensures) ∙ tallied-rows (b .loop .tally) _ in (
@@ -89,7 +89,7 @@ scan-spec =
     Inv-loop
     μ-loop
     loop-holds
-    row-at-requires
+    row-from-requires
     enum-known-from
     enum-told
     returns

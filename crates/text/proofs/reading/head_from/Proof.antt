@@ -1,41 +1,58 @@
 -- `text::reading::head_from` meets its contract. A line with its LF, or none. Assumes nothing.
+use mathlib.Core.Path.{sym, _∙_}
+use native.Mathlib.Omega.{arith}
 use borrow.Author.Needs.{needs}
-use Rattle.text.proofs.Ended.{head-unended, head-ended}
+use Rattle.text.proofs.Ended.{EndedAt, ended-at, head-unended, head-ended}
 use Rattle.text.proofs.reading.head_from.Statement.{statement}
 use Rattle.text.proofs.reading.head_from.Tie as tie
 
-line-end-requires : tie.Need-line-end-requires
-line-end-requires c κs = search needs
+line-at-requires : tie.Need-line-at-requires
+line-at-requires c κs = search needs
+
+enum-known-end : tie.Need-enum-known-end
+enum-known-end c = search needs
+
+enum-told : tie.Need-enum-told
+enum-told c = search needs
 
 returns : tie.Need-returns
-returns c = head-unended _ _ _ (c .before .line-end .ensures .0) (c .if1 .taken)
+returns c =
+    let r = c .before .before in
+    head-unended _ _ (sym (r .line-at .ensures) ∙ c .enum-told .given .1)
+
+-- the line that was found
+found : (c : tie.After-known-told) →
+    let a = c .before .before .before .before .before .args in
+    EndedAt (a .text .now) (a .at) (c .before .end .given .0 .0)
+found c =
+    let r = c .before .before .before in
+    ended-at _ _ _ (sym (r .line-at .ensures) ∙ c .before .end .given .1)
 
 sub-head-of : tie.Need-sub-head-of
-sub-head-of c = search needs
+sub-head-of c = found c .after
 
 part-head-of-start : tie.Need-part-head-of-start
-part-head-of-start c = search needs
+part-head-of-start c = found c .after
 
 part-head-of-end : tie.Need-part-head-of-end
-part-head-of-end c = search needs
+part-head-of-end c = omega (arith, found c .inside)
 
 add-head-of : tie.Need-add-head-of
-add-head-of c = search needs
+add-head-of c = let h = found (c .before) .inside in search needs
 
 head-of-requires : tie.Need-head-of-requires
 head-of-requires c κs = search needs
 
 returns-2 : tie.Need-returns-2
-returns-2 c =
-    let i = c .before .before in
-    let a = i .before .before .before .args in
-    head-ended (a .text .now) (a .at) _ (i .before .line-end .ensures .0) (i .if1 .left) _ (c .head-of .ensures)
+returns-2 c = head-ended _ _ _ (found (c .before .before)) _ (c .head-of .ensures)
 
 pub head-from-spec : {M : Type 1} → statement M
 head-from-spec =
     tie.close
     (tie.spec
-    line-end-requires
+    line-at-requires
+    enum-known-end
+    enum-told
     returns
     sub-head-of
     part-head-of-start

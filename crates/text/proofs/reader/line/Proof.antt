@@ -1,5 +1,5 @@
--- `text::reader::row` meets its contract: a walk of its MIR, by hand. The struct is taken apart, and `row_from` is
--- called on the slice and the number. All that the proof knows of `row_from` is that it meets its contract.
+-- `text::reader::line` meets its contract: a walk of its MIR, by hand. The struct is taken apart, and `line_from` is
+-- called on the slice and the number. All that the proof knows of `line_from` is that it meets its contract.
 -- The struct is Copy: what it owns is had twice, one copy is kept whole for the exit, and of the other what text
 -- owns goes to the callee, beside the lifetime's token, which comes back.
 -- Assumes nothing.
@@ -95,27 +95,27 @@ use denote.Triple.Table.{entered, cited}
 use denote.Triple.Walked.{says, Stays, stay-none, walkOf, goes-none, Walks, ends-at, walked, walk-meets}
 use denote.Exit.{yes}
 use denote.Triple.Clauses.{ensured, lasts}
-use Rattle.text.specs.Reading.{row-from}
+use Rattle.text.specs.Reading.{line-from}
 use Rattle.text.specs.declared.reader.Reader.{Reader}
-use Rattle.text.specs.declared.reading.RowLine.{RowLine}
+use Rattle.text.specs.declared.ends.Line.{Line}
 use Rattle.text.proofs.reader.Reader as T
 use Rattle.text.proofs.reader.Reader.Laws as T′
-use Rattle.text.proofs.reading.RowLine as S
-use Rattle.text.proofs.reading.RowLine.Laws as S′
-use Rattle.text.proofs.reading.row_from as called
-use Rattle.text.proofs.reading.row_from.Symbol as called-def
-use Rattle.text.proofs.reading.row_from.Symbol.{name as #text·reading·row-from}
-use Rattle.text.proofs.reading.row_from.Met as called-thm
-use Rattle.text.proofs.reader.row.Key.{name as #text·reader·row}
-use Rattle.text.proofs.reader.row as row
-use Rattle.text.proofs.reader.row.Statement as stated
-use Rattle.text.proofs.reader.row.Code as code
+use Rattle.text.proofs.ends.Line as S
+use Rattle.text.proofs.ends.Line.Laws as S′
+use Rattle.text.proofs.ends.line_from as called
+use Rattle.text.proofs.ends.line_from.Symbol as called-def
+use Rattle.text.proofs.ends.line_from.Symbol.{name as #text·ends·line-from}
+use Rattle.text.proofs.ends.line_from.Met as called-thm
+use Rattle.text.proofs.reader.line.Key.{name as #text·reader·line}
+use Rattle.text.proofs.reader.line as line
+use Rattle.text.proofs.reader.line.Statement as stated
+use Rattle.text.proofs.reader.line.Code as code
 
 -- the struct's type, over the signature's lifetimes
 abbrev B : Lfts 1 → RattleType
 B κs = T.the-row (namedLft 1 0 tt κs)
 
-abbrev stayed : Stays (row.ended .signature .params) (row.ended .kept)
+abbrev stayed : Stays (line.ended .signature .params) (line.ended .kept)
 stayed = (stay-none B yes, tt)
 
 module _ {M : Type 1} (𝓤 : URA M) (H : Heap 𝓤) (A : Atoms 𝓤) (mem : Memory → SProp 𝓤) (run : Routine → Fun 𝓤) where
@@ -132,12 +132,12 @@ module _ {M : Type 1} (𝓤 : URA M) (H : Heap 𝓤) (A : Atoms 𝓤) (W : Given
   abbrev v : Val
   v = sliceVal (d .text .ptr) (length (d .text .now))
 
-  abbrev found : RowLine
-  found = row-from (now (d .text)) (d .at)
+  abbrev found : Line
+  found = line-from (now (d .text)) (d .at)
 
   abbrev Post : Val → SProp 𝓤
   Post =
-      walkOf 𝓤 H A row.ended stayed (row.clauses 𝓤 H A mem run) .post
+      walkOf 𝓤 H A line.ended stayed (line.clauses 𝓤 H A mem run) .post
       (((κ, tt), (q, tt), tt, (d, tt), (mach ∷ [], tt)), tt)
 
   abbrev Own : Fml
@@ -168,7 +168,7 @@ module _ {M : Type 1} (𝓤 : URA M) (H : Heap 𝓤) (A : Atoms 𝓤) (W : Given
 
   -- what the struct owns gives what the callee asks, and is kept
   apart : d .at < 2 ^ 64 →
-      ent 𝓤 (onEntry 𝓤 H A row.signature (κ, tt) (q, tt) (d, tt) (mach ∷ [], tt))
+      ent 𝓤 (onEntry 𝓤 H A line.signature (κ, tt) (q, tt) (d, tt) (mach ∷ [], tt))
       (sep 𝓤 (Called 𝓤 H A mem run .pre to) (sem 𝓤 H A Own))
   apart fits =
       qed W ((‵ (flft κ q) ⊛ ‵ ftrue) ∷ ‵ (owns (B (κ, tt) ∷ []) (d, tt) (mach ∷ [], tt)) ∷ []) ∵
@@ -185,27 +185,27 @@ module _ {M : Type 1} (𝓤 : URA M) (H : Heap 𝓤) (A : Atoms 𝓤) (W : Given
       move ! (2 ∷ 0 ∷ []) $ use2 W (raw (Called 𝓤 H A mem run .pre to)) asked $ frame ! $ done !)
 
   -- of the callee's `ensured`, the clause alone: it has no `&mut`, so what is said of last values is dropped
-  said : (r : RowLine) →
+  said : (r : Line) →
       ent 𝓤 (ensured 𝓤 H A called.ended (called.clauses 𝓤 H A mem run) (κ, tt) (d .text, (d .at, tt)) tt r)
       (fact 𝓤 (r ≡ found))
   said r =
       exE 𝓤 _ (λ ws. snd∗ 𝓤 (sem 𝓤 H A (lasts called.ended (κ, tt) (d .text, (d .at, tt)) ws)) (fact 𝓤 (r ≡ found)))
 
-  exits : (r : RowLine) (u : Val) → r ≡ found →
+  exits : (r : Line) (u : Val) → r ≡ found →
       ent 𝓤 (⋆ 𝓤 H A (‵ (S.the-row .own r (u ∷ [])) ∷ (‵ (flft κ q) ⊛ ‵ ftrue) ∷ ‵ Own ∷ [])) (Post u)
   exits r u e =
       qed W (‵ (S.the-row .own r (u ∷ [])) ∷ (‵ (flft κ q) ⊛ ‵ ftrue) ∷ ‵ Own ∷ []) ∵
-      suffices ! _ (ends-at 𝓤 H A row.ended stayed (row.clauses 𝓤 H A mem run) W
+      suffices ! _ (ends-at 𝓤 H A line.ended stayed (line.clauses 𝓤 H A mem run) W
       (((κ, tt), (q, tt), tt, (d, tt), (mach ∷ [], tt)), tt) u r (tt, tt) (tt, tt)) $ says ! e $
       move ! (1 ∷ []) $ frame ! $ nothing ! $ move ! (2 ∷ 0 ∷ []) $ fjoin ! $ frame ! $ done !
 
   module _ (C : Calls 𝓤 H) (Λ : Loops 𝓤 H) (fm : FmC 𝓤 H (W .laws) C)
-      (known : Triple 𝓤 (C #text·reading·row-from) (Called 𝓤 H A mem run)) where
+      (known : Triple 𝓤 (C #text·ends·line-from) (Called 𝓤 H A mem run)) where
     walk : Holds (hasTy (T′.mir (named 0)) mach) × WT mach →
-        ent 𝓤 (onEntry 𝓤 H A row.signature (κ, tt) (q, tt) (d, tt) (mach ∷ [], tt))
+        ent 𝓤 (onEntry 𝓤 H A line.signature (κ, tt) (q, tt) (d, tt) (mach ∷ [], tt))
         (WpFn 𝓤 H C Λ code.function (mach ∷ []) Post)
     walk wt =
-        qed W (raw (onEntry 𝓤 H A row.signature (κ, tt) (q, tt) (d, tt) (mach ∷ [], tt)) ∷
+        qed W (raw (onEntry 𝓤 H A line.signature (κ, tt) (q, tt) (d, tt) (mach ∷ [], tt)) ∷
         []) ∵ enter ! C Λ code.function (mach ∷ []) _ $
         alloc1 ! (λ l₀. alloc1 ! (λ l₁. alloc1 ! (λ l₂. alloc1 ! (λ l₃. alloc0 ! $ params1 ! $
         pass1 ! (init ! 4 refl wt) $ pass0 ! $
@@ -217,7 +217,7 @@ module _ {M : Type 1} (𝓤 : URA M) (H : Heap 𝓤) (A : Atoms 𝓤) (W : Given
         calls-at ! fm (Called 𝓤 H A mem run) known to
         (and-then ! (load ! (from ! (stop !)) (look ! 4 refl))
         (and-then ! (load ! (from ! (stop !)) (look ! 2 refl)) (no-more !))) (λ u.
-        use1 W (later (some (λ (r : RowLine). ((‵ (flft κ q) ⊛ ‵ ftrue) ⊛ ‵ (S.the-row .own r (u ∷ []))) ⊛ raw
+        use1 W (later (some (λ (r : Line). ((‵ (flft κ q) ⊛ ‵ ftrue) ⊛ ‵ (S.the-row .own r (u ∷ []))) ⊛ raw
         (ensured 𝓤 H A called.ended (called.clauses 𝓤 H A mem run) (κ, tt) (d .text, (d .at, tt)) tt r))))
         (id⊢ 𝓤 _) $ await ! tt $ pick ! (λ r.
         split ! $ move ! (1 ∷ []) $ use1 W (raw (fact 𝓤 (r ≡ found))) (said r) $ heard ! (r ≡ found) (λ e. split ! $
@@ -231,11 +231,11 @@ module _ {M : Type 1} (𝓤 : URA M) (H : Heap 𝓤) (A : Atoms 𝓤) (W : Given
 
 module _ {M : Type 1} (𝓤 : URA M) (H : Heap 𝓤) (A : Atoms 𝓤) (W : Given 𝓤 H A) (mem : Memory → SProp 𝓤)
     (run : Routine → Fun 𝓤) where
-  row-walks : (C : Calls 𝓤 H) (Λ : Loops 𝓤 H) → FmC 𝓤 H (W .laws) C →
-      Triple 𝓤 (C #text·reading·row-from) (Called 𝓤 H A mem run)
-      → Walks 𝓤 H A row.ended stayed (WpFn 𝓤 H C Λ code.function) (row.clauses 𝓤 H A mem run)
-  row-walks C Λ fm known =
-      walked 𝓤 H A row.ended stayed (row.clauses 𝓤 H A mem run) (WpFn 𝓤 H C Λ code.function)
+  line-walks : (C : Calls 𝓤 H) (Λ : Loops 𝓤 H) → FmC 𝓤 H (W .laws) C →
+      Triple 𝓤 (C #text·ends·line-from) (Called 𝓤 H A mem run)
+      → Walks 𝓤 H A line.ended stayed (WpFn 𝓤 H C Λ code.function) (line.clauses 𝓤 H A mem run)
+  line-walks C Λ fm known =
+      walked 𝓤 H A line.ended stayed (line.clauses 𝓤 H A mem run) (WpFn 𝓤 H C Λ code.function)
       (λ κs. (LL.vals (T.the-type (namedLft 1 0 tt κs)) (T′.the-laws (namedLft 1 0 tt κs)), tt))
       (λ κs. (LL.tells (T.the-type (namedLft 1 0 tt κs)) (T′.the-laws (namedLft 1 0 tt κs)), tt))
       (λ κs qs bounds a g are. via 𝓤 _ (fst∗ 𝓤 _ (emp 𝓤))
@@ -243,21 +243,21 @@ module _ {M : Type 1} (𝓤 : URA M) (H : Heap 𝓤) (A : Atoms 𝓤) (W : Given
       (LL.lawful (T.the-type (namedLft 1 0 tt κs)) (T′.the-laws (namedLft 1 0 tt κs)) 𝓤 H A W .typed (a .0) _
       (are .0) .0)))
 
-row-meets : {M : Type 1} (𝓤 : URA M) (H : Heap 𝓤) (A : Atoms 𝓤) (W : Given 𝓤 H A) (mem : Memory → SProp 𝓤)
+line-meets : {M : Type 1} (𝓤 : URA M) (H : Heap 𝓤) (A : Atoms 𝓤) (W : Given 𝓤 H A) (mem : Memory → SProp 𝓤)
     (run : Routine → Fun 𝓤) (𝓣 : Tables 𝓤 H)
-    → Triple 𝓤 (𝓣 .C #text·reading·row-from) (Called 𝓤 H A mem run)
-    → Meets 𝓤 H A row.signature (WpFn 𝓤 H (𝓣 .C) (𝓣 .Λ) code.function) (row.spec 𝓤 H A mem run)
-row-meets 𝓤 H A W mem run 𝓣 known-called =
-    walk-meets 𝓤 H A row.ended stayed W (goes-none 𝓤 H A W 1 B yes (λ κs x f. refl), tt) (row.clauses 𝓤 H A mem run)
+    → Triple 𝓤 (𝓣 .C #text·ends·line-from) (Called 𝓤 H A mem run)
+    → Meets 𝓤 H A line.signature (WpFn 𝓤 H (𝓣 .C) (𝓣 .Λ) code.function) (line.spec 𝓤 H A mem run)
+line-meets 𝓤 H A W mem run 𝓣 known-called =
+    walk-meets 𝓤 H A line.ended stayed W (goes-none 𝓤 H A W 1 B yes (λ κs x f. refl), tt) (line.clauses 𝓤 H A mem run)
     (WpFn 𝓤 H (𝓣 .C) (𝓣 .Λ) code.function) (WpFn-mono 𝓤 H (W .laws) 𝓣 code.function)
-    (row-walks 𝓤 H A W mem run (𝓣 .C) (𝓣 .Λ) (fmOf 𝓤 H (W .laws) 𝓣) known-called)
+    (line-walks 𝓤 H A W mem run (𝓣 .C) (𝓣 .Λ) (fmOf 𝓤 H (W .laws) 𝓣) known-called)
 
-pub row-spec : {M : Type 1} → stated.statement M
+pub line-spec : {M : Type 1} → stated.statement M
 unfolding code.routine tablesOf
-row-spec 𝓤 H 𝓜 𝓖 𝓡 =
-    entered 𝓤 H (tripleOf 𝓤 H (𝓖 .A) row.signature (row.spec 𝓤 H (𝓖 .A) (𝓜 .mem) (𝓡 .run)))
-    (tables 𝓤 H 𝓜 𝓡 code.env .C) (tables 𝓤 H 𝓜 𝓡 code.env .Λ) #text·reader·row code.function (code.unfolded 𝓤 H 𝓜 𝓡)
-    (row-meets 𝓤 H (𝓖 .A) (givenOf 𝓤 H 𝓜 𝓖) (𝓜 .mem) (𝓡 .run) (tablesOf 𝓤 H 𝓜 (tables 𝓤 H 𝓜 𝓡 code.env))
+line-spec 𝓤 H 𝓜 𝓖 𝓡 =
+    entered 𝓤 H (tripleOf 𝓤 H (𝓖 .A) line.signature (line.spec 𝓤 H (𝓖 .A) (𝓜 .mem) (𝓡 .run)))
+    (tables 𝓤 H 𝓜 𝓡 code.env .C) (tables 𝓤 H 𝓜 𝓡 code.env .Λ) #text·reader·line code.function (code.unfolded 𝓤 H 𝓜 𝓡)
+    (line-meets 𝓤 H (𝓖 .A) (givenOf 𝓤 H 𝓜 𝓖) (𝓜 .mem) (𝓡 .run) (tablesOf 𝓤 H 𝓜 (tables 𝓤 H 𝓜 𝓡 code.env))
     (cited 𝓤 H (Called 𝓤 H (𝓖 .A) (𝓜 .mem)
-    (𝓡 .run)) 𝓜 𝓡 code.env #text·reading·row-from called-def.routine code.calls-text·reading·row-from
+    (𝓡 .run)) 𝓜 𝓡 code.env #text·ends·line-from called-def.routine code.calls-text·ends·line-from
     (called-thm.met 𝓤 H 𝓜 𝓖 𝓡)))

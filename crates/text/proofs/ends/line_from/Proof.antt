@@ -1,4 +1,4 @@
--- `text::reading::line_end` meets its contract. The loop's invariant: the line ends where it ends from here on.
+-- `text::ends::line_from` meets its contract. The loop's invariant: the line ends where it ends from here on.
 -- Assumes nothing.
 use Prim.Native.Nat.{_-_, _≤_}
 use mathlib.Core.Path.{_≡_, refl, _∙_}
@@ -6,9 +6,9 @@ use native.Mathlib.Omega.{arith}
 use native.Mathlib.Numerals.{add-one}
 use lib.ListN.{length}
 use Rattle.text.specs.Reading.{line-end}
-use Rattle.text.proofs.Ended.{end-none, end-here, end-next}
-use Rattle.text.proofs.reading.line_end.Statement.{statement}
-use Rattle.text.proofs.reading.line_end.Tie as tie
+use Rattle.text.proofs.Ended.{end-none, end-here, end-next, line-open, line-ended}
+use Rattle.text.proofs.ends.line_from.Statement.{statement}
+use Rattle.text.proofs.ends.line_from.Tie as tie
 
 abbrev Inv-loop : tie.InvT-loop
 Inv-loop text at end₀ end = (at ≤ end) × (line-end text at ≡ line-end text end)
@@ -25,9 +25,9 @@ shared-slice-read-if1 c = omega arith
 returns : tie.Need-returns Inv-loop μ-loop
 returns c =
     let b = c .before .before .before in
-    let a = b .before .args in
-    let e = end-here (a .text .now) (b .loop .end) (omega arith) (c .if1 .taken) in
-    (omega arith, omega arith)
+    let t = b .before .args .text .now in
+    let e = end-here t (b .loop .end) (omega arith) (c .if1 .taken) in
+    line-ended t _ (b .loop .end) (b .loop .inv .1 ∙ e) (omega arith)
 
 add-end : tie.Need-add-end Inv-loop μ-loop
 add-end c = omega arith
@@ -47,12 +47,12 @@ loop-again c =
 returns-2 : tie.Need-returns-2 Inv-loop μ-loop
 returns-2 c =
     let b = c .before in
-    let a = b .before .args in
-    let e = end-none (a .text .now) (b .loop .end) (c .loop-test .left) in
-    (omega arith, omega arith)
+    let t = b .before .args .text .now in
+    let e = end-none t (b .loop .end) (c .loop-test .left) in
+    line-open t _ (b .loop .end) (b .loop .inv .1 ∙ e) (c .loop-test .left)
 
-pub line-end-spec : {M : Type 1} → statement M
-line-end-spec =
+pub line-from-spec : {M : Type 1} → statement M
+line-from-spec =
     tie.close
     (tie.spec
     Inv-loop

@@ -1,5 +1,5 @@
--- `text::reader::row_at` meets its contract: a walk of its MIR, by hand. A `Reader` that one call returns is held in
--- a local and passed to the next. All that the proof knows of `placed` and of `row` is that each meets its contract.
+-- `text::reader::line_at` meets its contract: a walk of its MIR, by hand. A `Reader` that one call returns is held in
+-- a local and passed to the next. All that the proof knows of `placed` and of `line` is that each meets its contract.
 -- The machine value that `placed` returns is stored and passed on as it is. In a local of a body MIR erases the
 -- lifetime of the struct's type, so the value is shown to have the type at `erased`: what the struct owns does not
 -- say the lifetime's name.
@@ -97,31 +97,31 @@ use denote.Triple.Walked.{
 }
 use denote.Exit.{yes}
 use denote.Triple.Clauses.{ensured, lasts}
-use Rattle.text.specs.Reading.{row-from}
+use Rattle.text.specs.Reading.{line-from}
 use Rattle.text.specs.declared.reader.Reader.{Reader}
-use Rattle.text.specs.declared.reading.RowLine.{RowLine}
+use Rattle.text.specs.declared.ends.Line.{Line}
 use Rattle.text.proofs.reader.Reader as T
 use Rattle.text.proofs.reader.Reader.Laws as T′
-use Rattle.text.proofs.reading.RowLine as S
-use Rattle.text.proofs.reading.RowLine.Laws as S′
+use Rattle.text.proofs.ends.Line as S
+use Rattle.text.proofs.ends.Line.Laws as S′
 use Rattle.text.proofs.reader.placed as placed
 use Rattle.text.proofs.reader.placed.Symbol as placed-def
 use Rattle.text.proofs.reader.placed.Symbol.{name as #text·reader·placed}
 use Rattle.text.proofs.reader.placed.Met as placed-thm
-use Rattle.text.proofs.reader.row as row
-use Rattle.text.proofs.reader.row.Symbol as row-def
-use Rattle.text.proofs.reader.row.Symbol.{name as #text·reader·row}
-use Rattle.text.proofs.reader.row.Met as row-thm
-use Rattle.text.proofs.reader.row_at.Key.{name as #text·reader·row-at}
-use Rattle.text.proofs.reader.row_at as row-at
-use Rattle.text.proofs.reader.row_at.Statement as stated
-use Rattle.text.proofs.reader.row_at.Code as code
+use Rattle.text.proofs.reader.line as line
+use Rattle.text.proofs.reader.line.Symbol as line-def
+use Rattle.text.proofs.reader.line.Symbol.{name as #text·reader·line}
+use Rattle.text.proofs.reader.line.Met as line-thm
+use Rattle.text.proofs.reader.line_at.Key.{name as #text·reader·line-at}
+use Rattle.text.proofs.reader.line_at as line-at
+use Rattle.text.proofs.reader.line_at.Statement as stated
+use Rattle.text.proofs.reader.line_at.Code as code
 
 -- the struct's type, over the signature's lifetimes
 abbrev B : Lfts 1 → RattleType
 B κs = T.the-row (namedLft 1 0 tt κs)
 
-abbrev stayed : Stays (row-at.ended .signature .params) (row-at.ended .kept)
+abbrev stayed : Stays (line-at.ended .signature .params) (line-at.ended .kept)
 stayed = (stay-none-slice (0 ∷ []) tt (plain (λ _. u8)) yes, (stay-none (λ _. usize) yes, tt))
 
 module _ {M : Type 1} (𝓤 : URA M) (H : Heap 𝓤) (A : Atoms 𝓤) (mem : Memory → SProp 𝓤) (run : Routine → Fun 𝓤) where
@@ -129,8 +129,8 @@ module _ {M : Type 1} (𝓤 : URA M) (H : Heap 𝓤) (A : Atoms 𝓤) (mem : Mem
   abbrev Placed : Contract 𝓤
   Placed = tripleOf 𝓤 H A placed.signature (placed.spec 𝓤 H A mem run)
 
-  abbrev Row : Contract 𝓤
-  Row = tripleOf 𝓤 H A row.signature (row.spec 𝓤 H A mem run)
+  abbrev Lined : Contract 𝓤
+  Lined = tripleOf 𝓤 H A line.signature (line.spec 𝓤 H A mem run)
 
 module _ {M : Type 1} (𝓤 : URA M) (H : Heap 𝓤) (A : Atoms 𝓤) (W : Given 𝓤 H A) (mem : Memory → SProp 𝓤)
     (run : Routine → Fun 𝓤) (κ : Lft) (q : Share) (s : RefT (List ℕ)) (n : ℕ) (ok : n < 2 ^ 64) where
@@ -139,11 +139,11 @@ module _ {M : Type 1} (𝓤 : URA M) (H : Heap 𝓤) (A : Atoms 𝓤) (W : Given
   v = sliceVal (s .ptr) (length (s .now))
 
   -- what is passed
-  abbrev passed : Vals row-at.signature (κ, tt)
+  abbrev passed : Vals line-at.signature (κ, tt)
   passed = (v ∷ [], (vint w64 n ∷ [], tt))
 
-  abbrev found : RowLine
-  found = row-from (now s) n
+  abbrev found : Line
+  found = line-from (now s) n
 
   -- the struct's type as a local of a body has it
   abbrev αᵉ : NamedLft
@@ -151,7 +151,7 @@ module _ {M : Type 1} (𝓤 : URA M) (H : Heap 𝓤) (A : Atoms 𝓤) (W : Given
 
   abbrev Post : Val → SProp 𝓤
   Post =
-      walkOf 𝓤 H A row-at.ended stayed (row-at.clauses 𝓤 H A mem run) .post
+      walkOf 𝓤 H A line-at.ended stayed (line-at.clauses 𝓤 H A mem run) .post
       (((κ, tt), (q, tt), tt, (s, (n, tt)), passed), tt)
 
   abbrev Own : Fml
@@ -161,7 +161,7 @@ module _ {M : Type 1} (𝓤 : URA M) (H : Heap 𝓤) (A : Atoms 𝓤) (W : Given
   abbrev to-placed : Placed 𝓤 H A mem run .Ghost
   to-placed = (((κ, tt), (q, tt), tt, (s, (n, tt)), passed), tt)
 
-  goes-placed : ent 𝓤 (onEntry 𝓤 H A row-at.signature (κ, tt) (q, tt) (s, (n, tt)) passed)
+  goes-placed : ent 𝓤 (onEntry 𝓤 H A line-at.signature (κ, tt) (q, tt) (s, (n, tt)) passed)
       (sep 𝓤 (Placed 𝓤 H A mem run .pre to-placed) (sem 𝓤 H A Own))
   goes-placed =
       qed W ((‵ (flft κ q) ⊛ ‵ ftrue) ∷ ‵ (owns (ShrSlice (named 0) κ u8 ∷ usize ∷ []) (s, (n, tt)) passed) ∷ []) ∵
@@ -179,41 +179,41 @@ module _ {M : Type 1} (𝓤 : URA M) (H : Heap 𝓤) (A : Atoms 𝓤) (W : Given
       exE 𝓤 _ (λ ws. snd∗ 𝓤 (sem 𝓤 H A (lasts placed.ended (κ, tt) (s, (n, tt)) ws))
       (fact 𝓤 ((r .text ≡ s) × (r .at ≡ n))))
 
-  -- the call of `row`, at the struct r with the machine value u
-  abbrev to-row : Reader → Val → Row 𝓤 H A mem run .Ghost
-  to-row r u = (((κ, tt), (q, tt), tt, (r, tt), (u ∷ [], tt)), tt)
+  -- the call of `line`, at the struct r with the machine value u
+  abbrev to-line : Reader → Val → Lined 𝓤 H A mem run .Ghost
+  to-line r u = (((κ, tt), (q, tt), tt, (r, tt), (u ∷ [], tt)), tt)
 
-  goes-row : (r : Reader) (u : Val) →
+  goes-line : (r : Reader) (u : Val) →
       ent 𝓤 (⋆ 𝓤 H A (‵ (B (κ, tt) .own r (u ∷ [])) ∷ (‵ (flft κ q) ⊛ ‵ ftrue) ∷ []))
-      (Row 𝓤 H A mem run .pre (to-row r u))
-  goes-row r u =
+      (Lined 𝓤 H A mem run .pre (to-line r u))
+  goes-line r u =
       qed W (‵ (B (κ, tt) .own r (u ∷ [])) ∷ (‵ (flft κ q) ⊛ ‵ ftrue) ∷ []) ∵ nothing ! $ move ! (1 ∷ 0 ∷ []) $
       fjoin ! $ move ! (1 ∷ 0 ∷ []) $ join ! $ frame ! $ done !
 
-  row-said : (r : Reader) (t : RowLine) →
-      ent 𝓤 (ensured 𝓤 H A row.ended (row.clauses 𝓤 H A mem run) (κ, tt) (r, tt) tt t)
-      (fact 𝓤 (t ≡ row-from (now (r .text)) (r .at)))
-  row-said r t =
-      exE 𝓤 _ (λ ws. snd∗ 𝓤 (sem 𝓤 H A (lasts row.ended (κ, tt) (r, tt) ws))
-      (fact 𝓤 (t ≡ row-from (now (r .text)) (r .at))))
+  line-said : (r : Reader) (t : Line) →
+      ent 𝓤 (ensured 𝓤 H A line.ended (line.clauses 𝓤 H A mem run) (κ, tt) (r, tt) tt t)
+      (fact 𝓤 (t ≡ line-from (now (r .text)) (r .at)))
+  line-said r t =
+      exE 𝓤 _ (λ ws. snd∗ 𝓤 (sem 𝓤 H A (lasts line.ended (κ, tt) (r, tt) ws))
+      (fact 𝓤 (t ≡ line-from (now (r .text)) (r .at))))
 
-  exits : (t : RowLine) (u : Val) → t ≡ found →
+  exits : (t : Line) (u : Val) → t ≡ found →
       ent 𝓤 (⋆ 𝓤 H A (‵ (S.the-row .own t (u ∷ [])) ∷ (‵ (flft κ q) ⊛ ‵ ftrue) ∷ ‵ Own ∷ [])) (Post u)
   exits t u e =
       qed W (‵ (S.the-row .own t (u ∷ [])) ∷ (‵ (flft κ q) ⊛ ‵ ftrue) ∷ ‵ Own ∷ []) ∵
-      suffices ! _ (ends-at 𝓤 H A row-at.ended stayed (row-at.clauses 𝓤 H A mem run) W
+      suffices ! _ (ends-at 𝓤 H A line-at.ended stayed (line-at.clauses 𝓤 H A mem run) W
       (((κ, tt), (q, tt), tt, (s, (n, tt)), passed), tt) u t (tt, (tt, tt)) (tt, (tt, tt))) $ says ! e $
       move ! (1 ∷ []) $ frame ! $ nothing ! $ owned ! usize (Is usize) (uint-makes 𝓤 H A W w64) n _ (refl, ok) $
       fjoin ! $ move ! (2 ∷ 0 ∷ []) $ fjoin ! $ frame ! $ done !
 
   module _ (C : Calls 𝓤 H) (Λ : Loops 𝓤 H) (fm : FmC 𝓤 H (W .laws) C)
       (known-placed : Triple 𝓤 (C #text·reader·placed) (Placed 𝓤 H A mem run))
-      (known-row : Triple 𝓤 (C #text·reader·row) (Row 𝓤 H A mem run)) where
+      (known-line : Triple 𝓤 (C #text·reader·line) (Lined 𝓤 H A mem run)) where
     walk : Is (ShrSlice (named 0) κ u8) s (v ∷ []) →
-        ent 𝓤 (onEntry 𝓤 H A row-at.signature (κ, tt) (q, tt) (s, (n, tt)) passed)
+        ent 𝓤 (onEntry 𝓤 H A line-at.signature (κ, tt) (q, tt) (s, (n, tt)) passed)
         (WpFn 𝓤 H C Λ code.function (v ∷ vint w64 n ∷ []) Post)
     walk p =
-        qed W (raw (onEntry 𝓤 H A row-at.signature (κ, tt) (q, tt) (s, (n, tt)) passed) ∷
+        qed W (raw (onEntry 𝓤 H A line-at.signature (κ, tt) (q, tt) (s, (n, tt)) passed) ∷
         []) ∵ enter ! C Λ code.function (v ∷ vint w64 n ∷ []) _ $
         alloc1 ! (λ l₀. alloc1 ! (λ l₁. alloc1 ! (λ l₂. alloc1 ! (λ l₃. alloc0 ! $ params1 ! $
         pass1 ! (init ! 4 refl (shr-slice-lawful 𝓤 H A W (named 0) κ u8 .typed s (v ∷ []) p .0)) $
@@ -230,14 +230,14 @@ module _ {M : Type 1} (𝓤 : URA M) (H : Heap 𝓤) (A : Atoms 𝓤) (W : Given
         -- [what the struct owns; the token; what s owns; room for _3; …; _2; …; _1; …; room for _0; …]
         peeks ! (B (κ, tt)) (Is (B (κ, tt))) (shows 𝓤 H A (B (κ, tt))) r (u ∷ []) (λ is.
         land ! (from ! (stop !)) (init ! 3 refl (LL.lawful (T.the-type αᵉ) (T′.the-laws αᵉ) 𝓤 H A W .typed r _ is .0)) $
-        use2 W (raw (Row 𝓤 H A mem run .pre (to-row r u))) (goes-row r u) $
-        calls-at ! fm (Row 𝓤 H A mem run) known-row (to-row r u)
+        use2 W (raw (Lined 𝓤 H A mem run .pre (to-line r u))) (goes-line r u) $
+        calls-at ! fm (Lined 𝓤 H A mem run) known-line (to-line r u)
         (and-then ! (load ! (from ! (stop !)) (look ! 2 refl)) (no-more !)) (λ u′.
-        use1 W (later (some (λ (t : RowLine). ((‵ (flft κ q) ⊛ ‵ ftrue) ⊛ ‵ (S.the-row .own t (u′ ∷ []))) ⊛ raw
-        (ensured 𝓤 H A row.ended (row.clauses 𝓤 H A mem run) (κ, tt) (r, tt) tt t)))) (id⊢ 𝓤 _) $ await ! tt $
+        use1 W (later (some (λ (t : Line). ((‵ (flft κ q) ⊛ ‵ ftrue) ⊛ ‵ (S.the-row .own t (u′ ∷ []))) ⊛ raw
+        (ensured 𝓤 H A line.ended (line.clauses 𝓤 H A mem run) (κ, tt) (r, tt) tt t)))) (id⊢ 𝓤 _) $ await ! tt $
         pick ! (λ t.
-        split ! $ move ! (1 ∷ []) $ use1 W (raw (fact 𝓤 (t ≡ row-from (now (r .text)) (r .at)))) (row-said r t) $
-        heard ! (t ≡ row-from (now (r .text)) (r .at)) (λ e′. split ! $ move ! (1 ∷ []) $
+        split ! $ move ! (1 ∷ []) $ use1 W (raw (fact 𝓤 (t ≡ line-from (now (r .text)) (r .at)))) (line-said r t) $
+        heard ! (t ≡ line-from (now (r .text)) (r .at)) (λ e′. split ! $ move ! (1 ∷ []) $
         -- [the result; the token; what s owns; _3; …; _2; …; _1; …; room for _0; …]
         peeks ! S.the-row (Is S.the-row) (shows 𝓤 H A S.the-row) t (u′ ∷ []) (λ is′.
         land ! (from ! (stop !)) (init ! 9 refl (EL.lawful S.the-type S′.the-laws 𝓤 H A W tt .typed t _ is′ .0)) $
@@ -245,39 +245,39 @@ module _ {M : Type 1} (𝓤 : URA M) (H : Heap 𝓤) (A : Atoms 𝓤) (W : Given
         move ! (9 ∷ 10 ∷ []) $ free1 ! $ move ! (7 ∷ 8 ∷ []) $ free1 ! $ move ! (5 ∷ 6 ∷ []) $ free1 ! $
         move ! (3 ∷ 4 ∷ []) $ free1 ! $ free0 ! $
         by ! (exits t u′ (e′ ∙
-        (ap (λ (x : RefT (List ℕ)). row-from (now x) (r .at)) (e .0) ∙ ap (row-from (now s)) (e .1))))))))))))))))
+        (ap (λ (x : RefT (List ℕ)). line-from (now x) (r .at)) (e .0) ∙ ap (line-from (now s)) (e .1))))))))))))))))
 
 module _ {M : Type 1} (𝓤 : URA M) (H : Heap 𝓤) (A : Atoms 𝓤) (W : Given 𝓤 H A) (mem : Memory → SProp 𝓤)
     (run : Routine → Fun 𝓤) where
-  row-at-walks : (C : Calls 𝓤 H) (Λ : Loops 𝓤 H) → FmC 𝓤 H (W .laws) C →
-      Triple 𝓤 (C #text·reader·placed) (Placed 𝓤 H A mem run) → Triple 𝓤 (C #text·reader·row) (Row 𝓤 H A mem run)
-      → Walks 𝓤 H A row-at.ended stayed (WpFn 𝓤 H C Λ code.function) (row-at.clauses 𝓤 H A mem run)
-  row-at-walks C Λ fm known-placed known-row =
-      walked 𝓤 H A row-at.ended stayed (row-at.clauses 𝓤 H A mem run) (WpFn 𝓤 H C Λ code.function)
+  line-at-walks : (C : Calls 𝓤 H) (Λ : Loops 𝓤 H) → FmC 𝓤 H (W .laws) C →
+      Triple 𝓤 (C #text·reader·placed) (Placed 𝓤 H A mem run) → Triple 𝓤 (C #text·reader·line) (Lined 𝓤 H A mem run)
+      → Walks 𝓤 H A line-at.ended stayed (WpFn 𝓤 H C Λ code.function) (line-at.clauses 𝓤 H A mem run)
+  line-at-walks C Λ fm known-placed known-line =
+      walked 𝓤 H A line-at.ended stayed (line-at.clauses 𝓤 H A mem run) (WpFn 𝓤 H C Λ code.function)
       (λ κs. (slice-vals, (uint-vals w64, tt))) (λ κs. (shr-slice-tells (named 0) (κs .0) u8, (uint-tells w64, tt)))
       (λ κs qs bounds a g are. via 𝓤 _ (fst∗ 𝓤 _ (emp 𝓤))
-      (walk 𝓤 H A W mem run (κs .0) (qs .0) (a .0) (a .1 .0) (are .1 .0 .1) C Λ fm known-placed known-row (are .0)))
+      (walk 𝓤 H A W mem run (κs .0) (qs .0) (a .0) (a .1 .0) (are .1 .0 .1) C Λ fm known-placed known-line (are .0)))
 
-row-at-meets : {M : Type 1} (𝓤 : URA M) (H : Heap 𝓤) (A : Atoms 𝓤) (W : Given 𝓤 H A) (mem : Memory → SProp 𝓤)
+line-at-meets : {M : Type 1} (𝓤 : URA M) (H : Heap 𝓤) (A : Atoms 𝓤) (W : Given 𝓤 H A) (mem : Memory → SProp 𝓤)
     (run : Routine → Fun 𝓤) (𝓣 : Tables 𝓤 H)
-    → Triple 𝓤 (𝓣 .C #text·reader·placed) (Placed 𝓤 H A mem run) → Triple 𝓤 (𝓣 .C #text·reader·row) (Row 𝓤 H A mem run)
-    → Meets 𝓤 H A row-at.signature (WpFn 𝓤 H (𝓣 .C) (𝓣 .Λ) code.function) (row-at.spec 𝓤 H A mem run)
-row-at-meets 𝓤 H A W mem run 𝓣 known-placed known-row =
-    walk-meets 𝓤 H A row-at.ended stayed W (
+    → Triple 𝓤 (𝓣 .C #text·reader·placed) (Placed 𝓤 H A mem run) → Triple 𝓤 (𝓣 .C #text·reader·line) (Lined 𝓤 H A mem run)
+    → Meets 𝓤 H A line-at.signature (WpFn 𝓤 H (𝓣 .C) (𝓣 .Λ) code.function) (line-at.spec 𝓤 H A mem run)
+line-at-meets 𝓤 H A W mem run 𝓣 known-placed known-line =
+    walk-meets 𝓤 H A line-at.ended stayed W (
       goes-none-slice 𝓤 H A W 1 (0 ∷ []) tt (plain (λ _. u8)) yes,
       (goes-none 𝓤 H A W 1 (λ _. usize) yes (λ κs x f. refl), tt),
-    ) (row-at.clauses 𝓤 H A mem run)
+    ) (line-at.clauses 𝓤 H A mem run)
     (WpFn 𝓤 H (𝓣 .C) (𝓣 .Λ) code.function) (WpFn-mono 𝓤 H (W .laws) 𝓣 code.function)
-    (row-at-walks 𝓤 H A W mem run (𝓣 .C) (𝓣 .Λ) (fmOf 𝓤 H (W .laws) 𝓣) known-placed known-row)
+    (line-at-walks 𝓤 H A W mem run (𝓣 .C) (𝓣 .Λ) (fmOf 𝓤 H (W .laws) 𝓣) known-placed known-line)
 
-pub row-at-spec : {M : Type 1} → stated.statement M
+pub line-at-spec : {M : Type 1} → stated.statement M
 unfolding code.routine tablesOf
-row-at-spec 𝓤 H 𝓜 𝓖 𝓡 =
-    entered 𝓤 H (tripleOf 𝓤 H (𝓖 .A) row-at.signature (row-at.spec 𝓤 H (𝓖 .A) (𝓜 .mem) (𝓡 .run)))
-    (tables 𝓤 H 𝓜 𝓡 code.env .C) (tables 𝓤 H 𝓜 𝓡 code.env .Λ) #text·reader·row-at code.function (code.unfolded 𝓤 H 𝓜 𝓡)
-    (row-at-meets 𝓤 H (𝓖 .A) (givenOf 𝓤 H 𝓜 𝓖) (𝓜 .mem) (𝓡 .run) (tablesOf 𝓤 H 𝓜 (tables 𝓤 H 𝓜 𝓡 code.env))
+line-at-spec 𝓤 H 𝓜 𝓖 𝓡 =
+    entered 𝓤 H (tripleOf 𝓤 H (𝓖 .A) line-at.signature (line-at.spec 𝓤 H (𝓖 .A) (𝓜 .mem) (𝓡 .run)))
+    (tables 𝓤 H 𝓜 𝓡 code.env .C) (tables 𝓤 H 𝓜 𝓡 code.env .Λ) #text·reader·line-at code.function (code.unfolded 𝓤 H 𝓜 𝓡)
+    (line-at-meets 𝓤 H (𝓖 .A) (givenOf 𝓤 H 𝓜 𝓖) (𝓜 .mem) (𝓡 .run) (tablesOf 𝓤 H 𝓜 (tables 𝓤 H 𝓜 𝓡 code.env))
     (cited 𝓤 H (Placed 𝓤 H (𝓖 .A) (𝓜 .mem)
     (𝓡 .run)) 𝓜 𝓡 code.env #text·reader·placed placed-def.routine code.calls-text·reader·placed
     (placed-thm.met 𝓤 H 𝓜 𝓖 𝓡))
-    (cited 𝓤 H (Row 𝓤 H (𝓖 .A) (𝓜 .mem)
-    (𝓡 .run)) 𝓜 𝓡 code.env #text·reader·row row-def.routine code.calls-text·reader·row (row-thm.met 𝓤 H 𝓜 𝓖 𝓡)))
+    (cited 𝓤 H (Lined 𝓤 H (𝓖 .A) (𝓜 .mem)
+    (𝓡 .run)) 𝓜 𝓡 code.env #text·reader·line line-def.routine code.calls-text·reader·line (line-thm.met 𝓤 H 𝓜 𝓖 𝓡)))
