@@ -1,0 +1,56 @@
+-- `all` is safe and ends: the rounds left fall, and the slices stay as long. Assumes nothing.
+use borrow.Author.Needs.{needs}
+use mathlib.Core.Path.{_≡_}
+use Prim.Native.Nat.{_-_}
+use lib.ListN.{length}
+use Rattle.text_runs.proofs.trips.all.Statement.{statement}
+use Rattle.text_runs.proofs.trips.all.Tie as tie
+
+abbrev Inv-loop : tie.InvT-loop
+Inv-loop out₀ counts₀ x₀ round₀ out counts x round = (length out ≡ length out₀) × (length counts ≡ length counts₀)
+
+abbrev μ-loop : tie.MeasureT-loop
+μ-loop out₀ counts₀ x₀ round₀ out counts x round = 500 - round
+
+drawn-requires : tie.Need-drawn-requires Inv-loop μ-loop
+drawn-requires c κs = search needs
+
+loop-holds : tie.Need-loop-holds Inv-loop μ-loop
+loop-holds c = search needs
+
+drawn-requires-2 : tie.Need-drawn-requires-2 Inv-loop μ-loop
+drawn-requires-2 c κs = search needs
+
+add-round : tie.Need-add-round Inv-loop μ-loop
+add-round c = search needs
+
+loop-less : tie.Need-loop-less Inv-loop μ-loop
+loop-less c = search needs
+
+loop-again : tie.Need-loop-again Inv-loop μ-loop
+loop-again c = search needs
+
+same-length : tie.Need-same-length Inv-loop μ-loop
+same-length c = search needs
+
+same-length-2 : tie.Need-same-length-2 Inv-loop μ-loop
+same-length-2 c = search needs
+
+returns : tie.Need-returns Inv-loop μ-loop
+returns c = search needs
+
+pub all-spec : {M : Type 1} → statement M
+all-spec =
+    tie.close
+    (tie.spec
+    Inv-loop
+    μ-loop
+    drawn-requires
+    loop-holds
+    drawn-requires-2
+    add-round
+    loop-less
+    loop-again
+    same-length
+    same-length-2
+    returns)

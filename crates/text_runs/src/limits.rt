@@ -1,0 +1,89 @@
+// 4,096 rows and more, and what comes before 1 and after it. The lines of 4,096 drawn rows take a further line or two.
+use crate::compare;
+use crate::draw;
+use cases::slice;
+use cases::tally::Outcome;
+use libc::STDOUT_FILENO;
+use paper::Reading;
+use paper::Writing;
+
+pub fn all() {
+    let mut rows = [0i32; 16384];
+    draw::rows(1, 4096, &mut rows);
+    longer(b"4,096 rows", &rows, b"");
+    longer(b"4,097 rows", &rows, b"Trans(1023, 65535, 1, 1),\n");
+    longer(
+        b"13 before 1 for rows",
+        &rows,
+        b"Trans(1023, 65535, 1, 1),\nTrans(\n",
+    );
+    longer(
+        b"1 for rows before 2",
+        &rows,
+        b"Trans(1023, 65536, 1, 1),\n",
+    );
+    longer(b"1 for rows before 3", &rows, b"Trans(0, 0, 1, 1),\n");
+    little_room();
+}
+
+// The text of a table with more behind it.
+fn longer(name: &[u8], rows: &[i32], more: &[u8]) {
+    let mut bytes = [0u8; 262144];
+    let n = match text::text_out(-1, 2, rows, &mut bytes) {
+        Writing::Wrote(n) => n,
+        Writing::Refused(_) => 0,
+    };
+    let end = lay(&mut bytes, n, more);
+    let mut numbers = [0i32; 16390];
+    let mut out = [0i32; 16384];
+    let outcome = compare::tried(slice::front_bytes(&bytes, end), &mut numbers, &mut out);
+    say(name, outcome);
+}
+
+fn lay(bytes: &mut [u8], n: usize, more: &[u8]) -> usize {
+    let mut end = n;
+    let mut i = 0;
+    while i < more.len() {
+        if bytes.len() <= end {
+            return end;
+        }
+        bytes[end] = more[i];
+        end += 1;
+        i += 1;
+    }
+    end
+}
+
+// An output of 16,383 numbers is refused before a bad text.
+fn little_room() {
+    let mut out = [0i32; 16383];
+    let number = match text::text_in(b"x", &mut out) {
+        Reading::Read {
+            prod0: _,
+            k: _,
+            rows: _,
+        } => 0,
+        Reading::Refused(refusal) => refusal.number(),
+    };
+    say(
+        b"1 for the output before 13",
+        Outcome {
+            number,
+            right: number == 1,
+        },
+    );
+}
+
+fn say(name: &[u8], outcome: Outcome) {
+    io::write_all(STDOUT_FILENO, name);
+    io::write_all(STDOUT_FILENO, b": ");
+    if !outcome.right {
+        io::write_all(STDOUT_FILENO, b"wrong, ");
+    }
+    if outcome.number == 0 {
+        io::write_all(STDOUT_FILENO, b"taken\n");
+        return;
+    }
+    io::print_decimal(STDOUT_FILENO, outcome.number as u64);
+    io::write_all(STDOUT_FILENO, b"\n");
+}
