@@ -32,6 +32,10 @@ pub fn tried(text: &[u8], numbers: &mut [i32], out: &mut [i32]) -> Outcome {
     let plain = plain::read(text, numbers);
     slice::fill(out);
     let reading = text::text_in(text, out);
+    judged(reading, plain, text, numbers, out)
+}
+
+fn judged(reading: Reading, plain: Plain, text: &[u8], numbers: &[i32], out: &[i32]) -> Outcome {
     match reading {
         Reading::Read { prod0, k, rows } => Outcome {
             number: 0,
@@ -76,15 +80,19 @@ fn is_refused(plain: Plain, numbers: &[i32], refusal: Refusal, out: &[i32]) -> b
     }
 }
 
+// How many bytes text out wrote; 0 if it refused.
+pub fn written(writing: Writing) -> usize {
+    match writing {
+        Writing::Wrote(n) => n,
+        Writing::Refused(_) => 0,
+    }
+}
+
 // Whether text out writes a table as this text, and nothing behind it.
 fn is_written(prod0: i32, k: usize, rows: &[i32], text: &[u8]) -> bool {
     let mut bytes = [0u8; 262144];
-    let writing = text::text_out(prod0, k, rows, &mut bytes);
-    match writing {
-        Writing::Wrote(n) => check::same(text, slice::front_bytes(&bytes, n))
-            && is_blank(&bytes, n),
-        Writing::Refused(_) => false,
-    }
+    let n = written(text::text_out(prod0, k, rows, &mut bytes));
+    check::same(text, slice::front_bytes(&bytes, n)) && is_blank(&bytes, n)
 }
 
 fn is_blank(bytes: &[u8], from: usize) -> bool {

@@ -88,10 +88,26 @@ fn each(text: &[u8], at: usize, out: &mut [i32], counts: &mut [usize]) {
 }
 
 // Every copy with one damage.
-pub fn all(text: &[u8], out: &mut [i32], counts: &mut [usize]) {
+fn all(text: &[u8], out: &mut [i32], counts: &mut [usize]) {
     let mut at = 0;
     while at < text.len() {
         each(text, at, out, counts);
         at += 1;
     }
+}
+
+pub fn of_head(out: &mut [i32], counts: &mut [usize]) {
+    all(b"Dfa(-1, 16)\n", out, counts);
+}
+
+pub fn of_row(out: &mut [i32], counts: &mut [usize]) {
+    all(b"Dfa(0, 9)\nTrans(0, 5, 1, -1),\n", out, counts);
+}
+
+pub fn of_rows(out: &mut [i32], counts: &mut [usize]) {
+    all(
+        b"Dfa(65535, 2)\nTrans(7, 99, 1023, 1),\nTrans(8, 98, 100, 65535),\nTrans(8, 99, 2, -1),\n",
+        out,
+        counts,
+    );
 }

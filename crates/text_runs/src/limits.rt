@@ -5,34 +5,38 @@ use cases::slice;
 use cases::tally::Outcome;
 use libc::STDOUT_FILENO;
 use paper::Reading;
-use paper::Writing;
 
 pub fn all() {
     let mut rows = [0i32; 16384];
     draw::rows(1, 4096, &mut rows);
-    longer(b"4,096 rows", &rows, b"");
-    longer(b"4,097 rows", &rows, b"Trans(1023, 65535, 1, 1),\n");
+    most(&rows);
+    before(&rows);
+    after(&rows);
+    little_room();
+}
+
+fn most(rows: &[i32]) {
+    longer(b"4,096 rows", rows, b"");
+    longer(b"4,097 rows", rows, b"Trans(1023, 65535, 1, 1),\n");
+}
+
+fn before(rows: &[i32]) {
     longer(
         b"13 before 1 for rows",
-        &rows,
+        rows,
         b"Trans(1023, 65535, 1, 1),\nTrans(\n",
     );
-    longer(
-        b"1 for rows before 2",
-        &rows,
-        b"Trans(1023, 65536, 1, 1),\n",
-    );
-    longer(b"1 for rows before 3", &rows, b"Trans(0, 0, 1, 1),\n");
-    little_room();
+}
+
+fn after(rows: &[i32]) {
+    longer(b"1 for rows before 2", rows, b"Trans(1023, 65536, 1, 1),\n");
+    longer(b"1 for rows before 3", rows, b"Trans(0, 0, 1, 1),\n");
 }
 
 // The text of a table with more behind it.
 fn longer(name: &[u8], rows: &[i32], more: &[u8]) {
     let mut bytes = [0u8; 262144];
-    let n = match text::text_out(-1, 2, rows, &mut bytes) {
-        Writing::Wrote(n) => n,
-        Writing::Refused(_) => 0,
-    };
+    let n = compare::written(text::text_out(-1, 2, rows, &mut bytes));
     let end = lay(&mut bytes, n, more);
     let mut numbers = [0i32; 16390];
     let mut out = [0i32; 16384];
@@ -57,14 +61,7 @@ fn lay(bytes: &mut [u8], n: usize, more: &[u8]) -> usize {
 // An output of 16,383 numbers is refused before a bad text.
 fn little_room() {
     let mut out = [0i32; 16383];
-    let number = match text::text_in(b"x", &mut out) {
-        Reading::Read {
-            prod0: _,
-            k: _,
-            rows: _,
-        } => 0,
-        Reading::Refused(refusal) => refusal.number(),
-    };
+    let number = number_of(text::text_in(b"x", &mut out));
     say(
         b"1 for the output before 13",
         Outcome {
@@ -72,6 +69,17 @@ fn little_room() {
             right: number == 1,
         },
     );
+}
+
+fn number_of(reading: Reading) -> usize {
+    match reading {
+        Reading::Read {
+            prod0: _,
+            k: _,
+            rows: _,
+        } => 0,
+        Reading::Refused(refusal) => refusal.number(),
+    }
 }
 
 fn say(name: &[u8], outcome: Outcome) {

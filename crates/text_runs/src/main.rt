@@ -24,12 +24,8 @@ fn main() {
 fn damaged(out: &mut [i32]) {
     io::write_all(STDOUT_FILENO, b"damaged copies\n");
     let mut counts = [0usize; 17];
-    copies::all(b"Dfa(-1, 16)\n", out, &mut counts);
-    copies::all(b"Dfa(0, 9)\nTrans(0, 5, 1, -1),\n", out, &mut counts);
-    copies::all(
-        b"Dfa(65535, 2)\nTrans(7, 99, 1023, 1),\nTrans(8, 98, 100, 65535),\nTrans(8, 99, 2, -1),\n",
-        out,
-        &mut counts,
-    );
+    copies::of_head(out, &mut counts);
+    copies::of_row(out, &mut counts);
+    copies::of_rows(out, &mut counts);
     tally::report(&counts);
 }

@@ -6,7 +6,6 @@ use cases::answer;
 use cases::slice;
 use cases::tally;
 use cases::tally::Outcome;
-use paper::Writing;
 
 // Whether the numbers read are those of the table.
 fn is_same(prod0: i32, k: usize, rows: &[i32], numbers: &[i32]) -> bool {
@@ -17,20 +16,12 @@ fn is_same(prod0: i32, k: usize, rows: &[i32], numbers: &[i32]) -> bool {
 }
 
 fn trip(prod0: i32, k: usize, rows: &[i32], bytes: &mut [u8], out: &mut [i32]) -> Outcome {
-    let writing = text::text_out(prod0, k, rows, bytes);
-    match writing {
-        Writing::Wrote(n) => {
-            let mut numbers = [0i32; 16386];
-            let outcome = compare::tried(slice::front_bytes(bytes, n), &mut numbers, out);
-            Outcome {
-                number: outcome.number,
-                right: outcome.right && is_same(prod0, k, rows, &numbers),
-            }
-        }
-        Writing::Refused(refusal) => Outcome {
-            number: refusal.number(),
-            right: false,
-        },
+    let n = compare::written(text::text_out(prod0, k, rows, bytes));
+    let mut numbers = [0i32; 16386];
+    let outcome = compare::tried(slice::front_bytes(bytes, n), &mut numbers, out);
+    Outcome {
+        number: outcome.number,
+        right: n != 0 && outcome.right && is_same(prod0, k, rows, &numbers),
     }
 }
 
