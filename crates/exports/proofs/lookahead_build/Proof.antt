@@ -9,19 +9,15 @@ use Rattle.exports.proofs.lookahead_build.Lts as lts
 use Rattle.build.proofs.build.Reads as build-reads
 use Rattle.exports.proofs.answers.made.Reads as made-reads
 
--- src/lib.rt:43:19
 build-requires : tie.Need-build-requires
 build-requires c κs = search needs
 
--- src/lib.rt:43:5
 made-requires : tie.Need-made-requires
 made-requires c κs = search needs
 
--- src/lib.rt:32:1
 same-length : tie.Need-same-length
 same-length c = search needs
 
--- src/lib.rt:32:1
 returns : tie.Need-returns
 returns c =
     let s = c .before .before .before .before .before .before .before in

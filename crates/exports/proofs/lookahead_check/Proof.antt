@@ -10,34 +10,27 @@ use Rattle.paper.proofs.Refusal.number.Reads as number-reads
 use Rattle.rows.proofs.checks.row_slice.Reads as row-slice-reads
 use Rattle.rows.proofs.verdict.plain.Reads as plain-reads
 
--- src/lib.rt:110:8
 row-slice-requires : tie.Need-row-slice-requires
 row-slice-requires c κs = search needs
 
--- src/lib.rt:111:9
 returns : tie.Need-returns
 returns c =
     let s = c .before .before in
     checked-length (s .args .prod0) (s .args .k) (s .args .rows .now)
     (sym (c .before .row-slice .ensures) ∙ c .if1 .taken)
 
--- src/lib.rt:113:9
 plain-requires : tie.Need-plain-requires
 plain-requires c κs = search needs
 
--- src/lib.rt:115:26
 enum-known-verdict : tie.Need-enum-known-verdict
 enum-known-verdict c = search needs
 
--- src/lib.rt:115:32
 number-requires : tie.Need-number-requires
 number-requires c κs = search needs
 
--- src/lib.rt:116:26
 enum-told : tie.Need-enum-told
 enum-told c = search needs
 
--- src/lib.rt:106:1
 returns-2 : tie.Need-returns-2
 returns-2 c =
     let v = c .before .before .before .before in
@@ -48,7 +41,6 @@ returns-2 c =
     (rw (c .before .before .verdict .given .1) at (rw (same (s .args .prod0) (s .fits .prod0)) at (v .plain .ensures)))
     (c .number .ensures)
 
--- src/lib.rt:106:1
 returns-3 : tie.Need-returns-3
 returns-3 c =
     let v = c .before .before in

@@ -7,15 +7,12 @@ use Rattle.exports.proofs.lookahead_explain.Lts as lts
 use Rattle.explain.proofs.matched.Reads as matched-reads
 use Rattle.exports.proofs.answers.explained.Reads as explained-reads
 
--- src/lib.rt:174:24
 matched-requires : tie.Need-matched-requires
 matched-requires c κs = search needs
 
--- src/lib.rt:174:5
 explained-requires : tie.Need-explained-requires
 explained-requires c κs = search needs
 
--- src/lib.rt:164:1
 returns : tie.Need-returns
 returns c =
     let s = c .before .before .before .before in

@@ -8,19 +8,15 @@ use Rattle.exports.proofs.lookahead_intake.Lts as lts
 use Rattle.exports.proofs.answers.made.Reads as made-reads
 use Rattle.intake.proofs.shrunk_table.Reads as shrunk-table-reads
 
--- src/lib.rt:100:9
 shrunk-table-requires : tie.Need-shrunk-table-requires
 shrunk-table-requires c κs = search needs
 
--- src/lib.rt:99:5
 made-requires : tie.Need-made-requires
 made-requires c κs = search needs
 
--- src/lib.rt:87:1
 same-length : tie.Need-same-length
 same-length c = search needs
 
--- src/lib.rt:87:1
 returns : tie.Need-returns
 returns c =
     table-hands _ _ _ _ _ _ (intake-fits _ _ _ _ _) (c .before .before .before .shrunk-table .ensures)

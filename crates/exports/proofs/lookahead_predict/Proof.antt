@@ -8,19 +8,15 @@ use Rattle.exports.proofs.answers.predicted.Reads as predicted-reads
 use Rattle.exports.proofs.mode_of.Reads as mode-of-reads
 use Rattle.predict.proofs.predict.Reads as predict-reads
 
--- src/lib.rt:134:9
 mode-of-requires : tie.Need-mode-of-requires
 mode-of-requires c κs = search needs
 
--- src/lib.rt:136:9
 predict-requires : tie.Need-predict-requires
 predict-requires c κs = search needs
 
--- src/lib.rt:135:5
 predicted-requires : tie.Need-predicted-requires
 predicted-requires c κs = search needs
 
--- src/lib.rt:121:1
 returns : tie.Need-returns
 returns c =
     let s = c .before .before .before .before .before in

@@ -8,19 +8,15 @@ use Rattle.exports.proofs.answers.predicted.Reads as predicted-reads
 use Rattle.exports.proofs.mode_of.Reads as mode-of-reads
 use Rattle.predict.proofs.predict_checked.Reads as predict-checked-reads
 
--- src/lib.rt:156:9
 mode-of-requires : tie.Need-mode-of-requires
 mode-of-requires c κs = search needs
 
--- src/lib.rt:158:9
 predict-checked-requires : tie.Need-predict-checked-requires
 predict-checked-requires c κs = search needs
 
--- src/lib.rt:157:5
 predicted-requires : tie.Need-predicted-requires
 predicted-requires c κs = search needs
 
--- src/lib.rt:142:1
 returns : tie.Need-returns
 returns c =
     let s = c .before .before .before .before .before in

@@ -10,23 +10,18 @@ use Rattle.exports.proofs.answers.made.Reads as made-reads
 use Rattle.exports.proofs.mode_of.Reads as mode-of-reads
 use Rattle.shrink.proofs.shrink.Reads as shrink-reads
 
--- src/lib.rt:82:9
 mode-of-requires : tie.Need-mode-of-requires
 mode-of-requires c κs = search needs
 
--- src/lib.rt:83:19
 shrink-requires : tie.Need-shrink-requires
 shrink-requires c κs = search needs
 
--- src/lib.rt:83:5
 made-requires : tie.Need-made-requires
 made-requires c κs = search needs
 
--- src/lib.rt:70:1
 same-length : tie.Need-same-length
 same-length c = search needs
 
--- src/lib.rt:70:1
 returns : tie.Need-returns
 returns c =
     let s = c .before .before .before .before .before .before in

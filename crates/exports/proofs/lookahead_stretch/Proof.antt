@@ -8,15 +8,12 @@ use Rattle.exports.proofs.lookahead_stretch.Lts as lts
 use Rattle.explain.proofs.place.Reads as place-reads
 use Rattle.exports.proofs.answers.put.Reads as put-reads
 
--- src/lib.rt:188:9
 place-requires : tie.Need-place-requires
 place-requires c κs = search needs
 
--- src/lib.rt:189:5
 put-requires : tie.Need-put-requires
 put-requires c κs = search needs
 
--- src/lib.rt:178:1
 returns : tie.Need-returns
 returns c =
     let s = c .before .before .before .before in

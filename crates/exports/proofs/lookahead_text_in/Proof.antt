@@ -8,19 +8,15 @@ use Rattle.exports.proofs.lookahead_text_in.Lts as lts
 use Rattle.exports.proofs.answers.heard.Reads as heard-reads
 use Rattle.text.proofs.text_in.Reads as text-in-reads
 
--- src/lib.rt:198:20
 text-in-requires : tie.Need-text-in-requires
 text-in-requires c κs = search needs
 
--- src/lib.rt:198:5
 heard-requires : tie.Need-heard-requires
 heard-requires c κs = search needs
 
--- src/lib.rt:193:1
 same-length : tie.Need-same-length
 same-length c = search needs
 
--- src/lib.rt:193:1
 returns : tie.Need-returns
 returns c =
     read-hands _ _ _ _ _ _ (text-fits _ _) (c .before .before .before .text-in .ensures) (c .heard .ensures)

@@ -8,19 +8,15 @@ use Rattle.exports.proofs.lookahead_text_out.Lts as lts
 use Rattle.exports.proofs.answers.wrote.Reads as wrote-reads
 use Rattle.text.proofs.text_out.Reads as text-out-reads
 
--- src/lib.rt:213:20
 text-out-requires : tie.Need-text-out-requires
 text-out-requires c κs = search needs
 
--- src/lib.rt:213:5
 wrote-requires : tie.Need-wrote-requires
 wrote-requires c κs = search needs
 
--- src/lib.rt:202:1
 same-length : tie.Need-same-length
 same-length c = search needs
 
--- src/lib.rt:202:1
 returns : tie.Need-returns
 returns c =
     let s = c .before .before .before .before .before .before .before in

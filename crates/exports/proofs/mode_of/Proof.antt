@@ -13,11 +13,9 @@ not-zero : (n : ℕ) → (n ≡ 0 → ⊥) → Intake ≡ mode-of n
 not-zero zero h = absurd (h refl)
 not-zero (suc n) h = refl
 
--- src/lib.rt:21:1
 returns : tie.Need-returns
 returns c = search needs
 
--- src/lib.rt:21:1
 returns-2 : tie.Need-returns-2
 returns-2 c = not-zero (c .before .args .mode) (c .if1 .left)
 

@@ -5,179 +5,135 @@ use Rattle.exports.proofs.answers.refused.Reads as reads
 use Rattle.exports.proofs.answers.refused.Lts as lts
 use Rattle.exports.proofs.answers.given.Reads as given-reads
 
--- src/answers.rt:33:34
 enum-told : tie.Need-enum-told
 enum-told c = search needs
 
--- src/answers.rt:33:28
 given-requires : tie.Need-given-requires
 given-requires c κs = search needs
 
--- src/answers.rt:34:33
 enum-told-2 : tie.Need-enum-told-2
 enum-told-2 c = search needs
 
--- src/answers.rt:34:27
 given-requires-2 : tie.Need-given-requires-2
 given-requires-2 c κs = search needs
 
--- src/answers.rt:35:33
 enum-told-3 : tie.Need-enum-told-3
 enum-told-3 c = search needs
 
--- src/answers.rt:35:27
 given-requires-3 : tie.Need-given-requires-3
 given-requires-3 c κs = search needs
 
--- src/answers.rt:36:33
 enum-told-4 : tie.Need-enum-told-4
 enum-told-4 c = search needs
 
--- src/answers.rt:36:27
 given-requires-4 : tie.Need-given-requires-4
 given-requires-4 c κs = search needs
 
--- src/answers.rt:37:33
 enum-told-5 : tie.Need-enum-told-5
 enum-told-5 c = search needs
 
--- src/answers.rt:37:27
 given-requires-5 : tie.Need-given-requires-5
 given-requires-5 c κs = search needs
 
--- src/answers.rt:38:33
 enum-told-6 : tie.Need-enum-told-6
 enum-told-6 c = search needs
 
--- src/answers.rt:38:27
 given-requires-6 : tie.Need-given-requires-6
 given-requires-6 c κs = search needs
 
--- src/answers.rt:39:32
 enum-told-7 : tie.Need-enum-told-7
 enum-told-7 c = search needs
 
--- src/answers.rt:39:26
 given-requires-7 : tie.Need-given-requires-7
 given-requires-7 c κs = search needs
 
--- src/answers.rt:40:24
 enum-known-f : tie.Need-enum-known-f
 enum-known-f c = search needs
 
--- src/answers.rt:40:50
 cast-given : tie.Need-cast-given
 cast-given c = search needs
 
--- src/answers.rt:40:62
 cast-given-2 : tie.Need-cast-given-2
 cast-given-2 c = search needs
 
--- src/answers.rt:40:33
 given-requires-8 : tie.Need-given-requires-8
 given-requires-8 c κs = search needs
 
--- src/answers.rt:41:36
 enum-told-8 : tie.Need-enum-told-8
 enum-told-8 c = search needs
 
--- src/answers.rt:41:30
 given-requires-9 : tie.Need-given-requires-9
 given-requires-9 c κs = search needs
 
--- src/answers.rt:42:33
 enum-told-9 : tie.Need-enum-told-9
 enum-told-9 c = search needs
 
--- src/answers.rt:42:27
 given-requires-10 : tie.Need-given-requires-10
 given-requires-10 c κs = search needs
 
--- src/answers.rt:43:32
 enum-told-10 : tie.Need-enum-told-10
 enum-told-10 c = search needs
 
--- src/answers.rt:43:26
 given-requires-11 : tie.Need-given-requires-11
 given-requires-11 c κs = search needs
 
--- src/answers.rt:44:32
 enum-told-11 : tie.Need-enum-told-11
 enum-told-11 c = search needs
 
--- src/answers.rt:44:26
 given-requires-12 : tie.Need-given-requires-12
 given-requires-12 c κs = search needs
 
--- src/answers.rt:45:23
 enum-known-f-2 : tie.Need-enum-known-f-2
 enum-known-f-2 c = search needs
 
--- src/answers.rt:45:30
 given-requires-13 : tie.Need-given-requires-13
 given-requires-13 c κs = search needs
 
--- src/answers.rt:46:32
 enum-told-12 : tie.Need-enum-told-12
 enum-told-12 c = search needs
 
--- src/answers.rt:46:26
 given-requires-14 : tie.Need-given-requires-14
 given-requires-14 c κs = search needs
 
--- src/answers.rt:29:1
 returns : tie.Need-returns
 returns c = search needs
 
--- src/answers.rt:29:1
 returns-2 : tie.Need-returns-2
 returns-2 c = search needs
 
--- src/answers.rt:29:1
 returns-3 : tie.Need-returns-3
 returns-3 c = search needs
 
--- src/answers.rt:29:1
 returns-4 : tie.Need-returns-4
 returns-4 c = search needs
 
--- src/answers.rt:29:1
 returns-5 : tie.Need-returns-5
 returns-5 c = search needs
 
--- src/answers.rt:29:1
 returns-6 : tie.Need-returns-6
 returns-6 c = search needs
 
--- src/answers.rt:29:1
 returns-7 : tie.Need-returns-7
 returns-7 c = search needs
 
--- src/answers.rt:29:1
 returns-8 : tie.Need-returns-8
 returns-8 c = rw (c .before .before .before .before .before .f .given .1) (c .given8 .ensures)
 
--- src/answers.rt:29:1
 returns-9 : tie.Need-returns-9
 returns-9 c = search needs
 
--- src/answers.rt:29:1
 returns-10 : tie.Need-returns-10
 returns-10 c = search needs
 
--- src/answers.rt:29:1
 returns-11 : tie.Need-returns-11
 returns-11 c = search needs
 
--- src/answers.rt:29:1
 returns-12 : tie.Need-returns-12
 returns-12 c = search needs
 
--- src/answers.rt:29:1
 returns-13 : tie.Need-returns-13
 returns-13 c = search needs
 
--- src/answers.rt:29:1
 returns-14 : tie.Need-returns-14
 returns-14 c = search needs
 
