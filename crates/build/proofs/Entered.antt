@@ -6,28 +6,20 @@ use mathlib.Core.List.{List, [], _∷_}
 use Prim.Native.Nat.{ℕ, zero, suc, _+_, _-_, _*_, _/_, _<_, _≤_}
 use native.Mathlib.Omega.{arith}
 use native.Mathlib.Numerals.{add-one}
-use lib.ListN.{length, take}
+use lib.ListN.{length}
 use lib.IntN.{ℤ}
 use Rattle.paper.specs.Rows.{Row, find}
 use Rattle.paper.specs.Build.{Standing, insert, enter}
-use Rattle.rows.specs.Places.{row-at}
 use Rattle.rows.proofs.Bracket.{fit-at}
 use Rattle.trees.proofs.Find.{length-insert}
-use Rattle.grow.specs.Held.{held, row-held, Laid, Adding, next, Added}
-use Rattle.grow.proofs.Written.{held-numbers, held-length, held-row}
+use Rattle.grow.specs.Held.{held, row-held, Laid, Missed, Adding, next, Added}
+use Rattle.grow.proofs.Written.{held-numbers, held-length}
 use Rattle.grow.proofs.Placed.{room}
-use Rattle.build.specs.Steps.{Leads, Missed, standing, Stands}
+use Rattle.build.specs.Steps.{Leads, standing, Stands}
 
 -- a row's to is a state
 pub to-small : (buf : List ℤ) (n i : ℕ) → Laid buf n → i < n → row-held buf n i .to ≤ 1023
 to-small buf n i l h = fit-at (l .passed) i (omega (arith, held-numbers buf n (room buf n l))) .to
-
--- what the search found, and what was read there
-pub found-below : (buf : List ℤ) (n i : ℕ) → Laid buf n → i < length (take (n * 4) buf) / 4 → i < n
-found-below buf n i l h = omega (arith, held-numbers buf n (room buf n l))
-
-pub to-read : (buf : List ℤ) (n i to : ℕ) → Laid buf n → i < n → to ≡ row-at buf i .to → to ≡ row-held buf n i .to
-to-read buf n i to l h e = e ∙ ap (λ (x : Row). x .to) (sym (held-row buf n (room buf n l) i h))
 
 pub state-small : (buf : List ℤ) (n s at : ℕ) → Laid buf n → Leads buf n s at → s ≤ 1023
 state-small buf n s zero l d = omega (arith, d .root refl)
@@ -71,15 +63,7 @@ module _ (buf : List ℤ) (n s t : ℕ) where
       )
 
   pub adding : (i : ℕ) → t ≤ 65535 → Missed buf n i s t → n < 1023 → Adding buf n i s t 0
-  adding i k m h = record {
-    laid = m .laid;
-    more = h;
-    from = m .from;
-    terminal = k;
-    production = omega arith;
-    new = m .new;
-    place = m .place;
-  }
+  adding i k m h = record { missed = m; more = h; terminal = k; production = omega arith }
 
   -- into a new state
   pub grows : (i : ℕ) (new : List ℤ) → Missed buf n i s t → Added buf new n i s t 0

@@ -1,17 +1,16 @@
 -- What a walk into the rows of an array does, token by token and string by string.
 use mathlib.Core.Path.{_≡_}
 use mathlib.Core.Bool.{cond}
-use mathlib.Core.Option.{Option, none, some}
+use mathlib.Core.Option.{none, some}
 use mathlib.Core.List.{List, map}
 use Prim.Native.Nat.{ℕ, _+_, _-_, _*_, _≤_, _<_}
 use lib.Dec.{eqb}
-use lib.ListN.{length, take}
+use lib.ListN.{length}
 use lib.IntN.{ℤ}
 use Rattle.paper.specs.Rows.{Table, find}
 use Rattle.paper.specs.Build.{Standing, enter, walk-in}
 use Rattle.rows.specs.Places.{uncoded}
-use Rattle.rows.specs.Search.{Lower}
-use Rattle.grow.specs.Held.{held, row-held, Laid}
+use Rattle.grow.specs.Held.{view, held, row-held, Laid}
 use Rattle.trees.proofs.Paint.{paint}
 use Rattle.trees.proofs.Tree.{Tree}
 use Rattle.build.specs.declared.strings.Step.{Step}
@@ -25,13 +24,6 @@ pub record Leads (buf : List ℤ) (n s at : ℕ) : Type 0 where
   pub there : 0 < at → at - 1 < n
   pub into : 0 < at → row-held buf n (at - 1) .to ≡ s
 
--- The search found no row, and i is where it would go.
-pub record Missed (buf : List ℤ) (n i s t : ℕ) : Type 0 where
-  pub laid : Laid buf n
-  pub from : s ≤ 1023
-  pub new : find (held buf n) s t ≡ none
-  pub place : Lower (take (n * 4) buf) (s * 65536 + t) i
-
 -- The first n rows, and a state.
 abbrev pub standing : List ℤ → ℕ → ℕ → Standing
 standing buf n s = record { rows = held buf n; state = s }
@@ -42,9 +34,9 @@ pub record Stands (buf : List ℤ) (n s at : ℕ) (w : Standing) : Type 0 where
   pub is : standing buf n s ≡ w
   pub leads : Leads buf n s at
 
--- A walk's end, or a walk that would add a 1,024th row.
+-- A walk's end, seen from where the array's rows begin, or a walk that would add a 1,024th row.
 abbrev pub Ends : List ℤ → Standing → Step → Type 0
-Ends new w (On n s at) = Stands new n (s .0) at w
+Ends new w (On lo n s at) = Stands (view new lo) n (s .0) at w
 Ends new w Full = 1023 < length (w .rows)
 
 -- One token.
@@ -67,7 +59,7 @@ pub record Added (old new : List ℤ) (n m s q : ℕ) (σ : List ℕ) : Type 0 w
   pub rows : held new m ≡ map (paint s (some q)) (walk-in (standing old n 0) σ .rows)
 
 abbrev pub Adds : List ℤ → List ℤ → ℕ → ℕ → List ℕ → Step → Type 0
-Adds old new n q σ (On m s at) = Added old new n m (s .0) q σ
+Adds old new n q σ (On lo m s at) = Added old (view new lo) n m (s .0) q σ
 Adds old new n q σ Full = 1023 < length (walk-in (standing old n 0) σ .rows)
 
 -- The code of prod0 before any string, and after a string that ends in the state s.
@@ -86,5 +78,5 @@ pub record Holds (new : List ℤ) (n code k : ℕ) (t : Table) : Type 0 where
   pub is : t ≡ record { prod0 = uncoded code; k = k; rows = held new n }
 
 abbrev pub Grows : List ℤ → Table → declared.Table → Type 0
-Grows new t (table.Rows n code k) = Holds new n code k t
+Grows new t (table.Rows lo n code k) = Holds (view new lo) n code k t
 Grows new t table.Full = 1023 < length (t .rows)

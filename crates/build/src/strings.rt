@@ -2,19 +2,20 @@
 use paper::Production;
 use paper::State;
 use paper::Terminal;
-use rows::numbers;
 use rows::search::Found;
 ghost use mathlib.Core.Path.{_≡_};
 ghost use Prim.Native.Nat.{_≤_};
 ghost use lib.ListN.{length};
 ghost use Rattle.paper.specs.Build.{built, strings, sum};
-ghost use Rattle.grow.specs.Held.{held, Laid};
+ghost use Rattle.grow.specs.Held.{view, held, Laid, Missed};
 ghost use Rattle.trees.proofs.Tree.{Tree};
-ghost use Rattle.build.specs.Steps.{Leads, Missed, Enters, Walks, Marked, Adds, Opens, Recodes, Grows};
+ghost use Rattle.build.specs.Steps.{Leads, Enters, Walks, Marked, Adds, Opens, Recodes, Grows};
 
-// Where a walk stands: how many rows there are, its state, and the row into it by its number plus one, 0 for none.
+// Where a walk stands: where the rows begin and how many they are, its state, and the row into it by its number plus
+// one, 0 for none.
 pub enum Step {
     On {
+        lo: usize,
         rows: usize,
         state: State,
         at: usize,
@@ -22,22 +23,28 @@ pub enum Step {
     Full,
 }
 
-// A table: how many rows there are, the code of its prod0, and k.
+// A table: where the rows begin and how many they are, the code of its prod0, and k.
 pub enum Table {
-    Rows { rows: usize, code: usize, k: usize },
+    Rows {
+        lo: usize,
+        rows: usize,
+        code: usize,
+        k: usize,
+    },
     Full,
 }
 
 // From a state by a token that has no row: into a new state, unless there are 1,023 rows.
-fn grown(buf: &mut [i32], n: usize, i: usize, state: State, token: Terminal) -> Step
-    requires { ⌜ Missed (now buf) n i (state .0) (token .0) ⌝ }
-    ensures { λ r. ⌜ Enters (now (buf .entry)) (now (buf .exit)) n (state .0) (token .0) r ⌝ }
+fn grown(buf: &mut [i32], lo: usize, n: usize, i: usize, state: State, token: Terminal) -> Step
+    requires { ⌜ Missed (view (now buf) lo) n i (state .0) (token .0) ⌝ }
+    ensures { λ r. ⌜ Enters (view (now (buf .entry)) lo) (now (buf .exit)) n (state .0) (token .0) r ⌝ }
 {
     if 1023 <= n {
         return Step::Full;
     }
-    grow::add(buf, n, i, state, token, 0);
+    let low = grow::add(buf, lo, n, i, state, token, 0);
     Step::On {
+        lo: low,
         rows: n + 1,
         state: State((n + 1) as u16),
         at: i + 1,
@@ -45,44 +52,51 @@ fn grown(buf: &mut [i32], n: usize, i: usize, state: State, token: Terminal) -> 
 }
 
 // From a state by a token: along its row, or into a new state.
-fn enter(buf: &mut [i32], n: usize, state: State, token: Terminal) -> Step
-    requires { ⌜ Laid (now buf) n × (state .0 ≤ 1023) ⌝ }
-    ensures { λ r. ⌜ Enters (now (buf .entry)) (now (buf .exit)) n (state .0) (token .0) r ⌝ }
+fn enter(buf: &mut [i32], lo: usize, n: usize, state: State, token: Terminal) -> Step
+    requires { ⌜ Laid (view (now buf) lo) n × (state .0 ≤ 1023) ⌝ }
+    ensures { λ r. ⌜ Enters (view (now (buf .entry)) lo) (now (buf .exit)) n (state .0) (token .0) r ⌝ }
 {
-    let found = rows::search::find(&buf[..n * 4], state.0 as usize, token.0 as usize);
+    let found = grow::find(buf, lo, n, state, token);
     match found {
-        Found::At(i) => {
-            let to = numbers::to_at(buf, i) as u16;
-            Step::On {
-                rows: n,
-                state: State(to),
-                at: i + 1,
-            }
-        }
-        Found::Missing(i) => grown(buf, n, i, state, token),
+        Found::At(i) => Step::On {
+            lo,
+            rows: n,
+            state: grow::to_at(buf, lo, n, i),
+            at: i + 1,
+        },
+        Found::Missing(i) => grown(buf, lo, n, i, state, token),
     }
 }
 
 // A string walked from state 0.
-fn walk(buf: &mut [i32], n: usize, string: &[u16]) -> Step
-    requires { ⌜ Laid (now buf) n ⌝ }
-    ensures { λ r. ⌜ Walks (now (buf .entry)) (now (buf .exit)) n (now (string .entry)) r ⌝ }
+fn walk(buf: &mut [i32], lo: usize, n: usize, string: &[u16]) -> Step
+    requires { ⌜ Laid (view (now buf) lo) n ⌝ }
+    ensures { λ r. ⌜ Walks (view (now (buf .entry)) lo) (now (buf .exit)) n (now (string .entry)) r ⌝ }
 {
+    let mut l = lo;
     let mut m = n;
     let mut s = State(0);
     let mut row = 0;
     let mut i = 0;
     while i < string.len() {
-        let step = enter(buf, m, s, Terminal(string[i]));
-        let Step::On { rows, state, at } = step else {
+        let step = enter(buf, l, m, s, Terminal(string[i]));
+        let Step::On {
+            lo,
+            rows,
+            state,
+            at,
+        } = step
+        else {
             return Step::Full;
         };
+        l = lo;
         m = rows;
         s = state;
         row = at;
         i += 1;
     }
     Step::On {
+        lo: l,
         rows: m,
         state: s,
         at: row,
@@ -90,27 +104,39 @@ fn walk(buf: &mut [i32], n: usize, string: &[u16]) -> Step
 }
 
 // The state that a walk stands in gets the production; state 0 has no row.
-fn mark(buf: &mut [i32], n: usize, state: State, at: usize, production: Production)
-    requires { ⌜ Laid (now buf) n × Tree (held (now buf) n) × Leads (now buf) n (state .0) at ⌝ }
-    ensures { λ _. ⌜ Marked (now (buf .entry)) (now (buf .exit)) n (state .0) (production .0) ⌝ }
+fn mark(buf: &mut [i32], lo: usize, n: usize, state: State, at: usize, production: Production)
+    requires { ⌜ Laid (view (now buf) lo) n × Tree (held (view (now buf) lo) n)
+        × Leads (view (now buf) lo) n (state .0) at ⌝ }
+    ensures { λ _. ⌜ Marked (view (now (buf .entry)) lo) (view (now (buf .exit)) lo) n (state .0) (production .0) ⌝ }
 {
     if at == 0 {
         return;
     }
-    grow::give(buf, n, at - 1, production.0 as usize + 1);
+    grow::give(buf, lo, n, at - 1, production.0 as usize + 1);
 }
 
 // A string walked from state 0, whose last state gets the production.
-fn add_string(buf: &mut [i32], n: usize, string: &[u16], production: Production) -> Step
-    requires { ⌜ Laid (now buf) n × Tree (held (now buf) n) ⌝ }
-    ensures { λ r. ⌜ Adds (now (buf .entry)) (now (buf .exit)) n (production .0) (now (string .entry)) r ⌝ }
+fn add_string(buf: &mut [i32], lo: usize, n: usize, string: &[u16], production: Production) -> Step
+    requires { ⌜ Laid (view (now buf) lo) n × Tree (held (view (now buf) lo) n) ⌝ }
+    ensures { λ r. ⌜ Adds (view (now (buf .entry)) lo) (now (buf .exit)) n (production .0) (now (string .entry)) r ⌝ }
 {
-    let step = walk(buf, n, string);
-    let Step::On { rows, state, at } = step else {
+    let step = walk(buf, lo, n, string);
+    let Step::On {
+        lo,
+        rows,
+        state,
+        at,
+    } = step
+    else {
         return Step::Full;
     };
-    mark(buf, rows, state, at, production);
-    Step::On { rows, state, at }
+    mark(buf, lo, rows, state, at, production);
+    Step::On {
+        lo,
+        rows,
+        state,
+        at,
+    }
 }
 
 // The code of prod0 before any string: an empty list makes state 0 accept.
@@ -134,33 +160,46 @@ fn next_code(code: usize, state: State, production: Production) -> usize
     code
 }
 
-// All strings: each is read from the rest of the token slice.
+// All strings: each is read from the rest of the token slice. The rows begin in the middle of the array.
 pub fn add_strings(
     buf: &mut [i32],
     production: Production,
     tokens: &[u16],
     lengths: &[usize],
 ) -> Table
-    requires { ⌜ Laid (now buf) 0 × (sum (now lengths) ≡ length (now tokens)) ⌝ }
+    requires { ⌜ Laid (view (now buf) 1024) 0 × (sum (now lengths) ≡ length (now tokens)) ⌝ }
     ensures { λ r. ⌜ Grows (now (buf .exit))
         (built (production .0) (strings (now (lengths .entry)) (now (tokens .entry)))) r ⌝ }
 {
     let mut rest = tokens;
+    let mut l = 1024;
     let mut n = 0;
     let mut code = first_code(lengths, production);
     let mut k = 0;
     let mut i = 0;
     while i < lengths.len() {
         let len = lengths[i];
-        let step = add_string(buf, n, &rest[..len], production);
-        let Step::On { rows, state, at: _ } = step else {
+        let step = add_string(buf, l, n, &rest[..len], production);
+        let Step::On {
+            lo,
+            rows,
+            state,
+            at: _,
+        } = step
+        else {
             return Table::Full;
         };
+        l = lo;
         n = rows;
         code = next_code(code, state, production);
         k = grow::larger(k, len);
         rest = &rest[len..];
         i += 1;
     }
-    Table::Rows { rows: n, code, k }
+    Table::Rows {
+        lo: l,
+        rows: n,
+        code,
+        k,
+    }
 }

@@ -1,6 +1,9 @@
 pub mod Shifted
+pub mod Lowered
+pub mod Ends
 pub mod Written
 pub mod Placed
+pub mod Viewed
 pub mod Painted
 pub mod Fronts
 pub mod Answered

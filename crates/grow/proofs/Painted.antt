@@ -13,6 +13,7 @@ use lib.ListN.{length, getD, take, drop, set, length-map}
 use lib.Seq.{split-at, length-take-le, take-set-lt}
 use lib.IntN.{ℤ, pos}
 use Rattle.laws.proofs.Every.{every-true, every-in}
+use Rattle.laws.proofs.RowNumbers.{rows-numbers}
 use Rattle.paper.specs.Rows.{Row, signed, rows-in, numbers, find}
 use Rattle.paper.specs.Checks.{every, row-fits, production-fits, rising}
 use Rattle.rows.specs.Places.{row-at, uncoded}
@@ -22,7 +23,7 @@ use Rattle.trees.proofs.Rising.{Rising, before-last, after-last, not-before-its
 use Rattle.trees.proofs.Paint.{paint, rising-paint}
 use Rattle.trees.proofs.Tree.{Tree, same-to, up}
 use Rattle.grow.specs.Held.{held, row-held, Laid, Giving, Given}
-use Rattle.grow.proofs.Written.{rows-numbers, no-row, held-length, held-at}
+use Rattle.grow.proofs.Written.{no-row, held-length, held-at}
 use Rattle.grow.proofs.Placed.{room, written, laid-by, uncoded-fits, fitting}
 
 -- rows none of which leads into s stay as they are

@@ -14,6 +14,7 @@ use lib.Seq.{length-take-le, take-take, take-nil, take-at, getD-at}
 use lib.IntN.{ℤ, pos}
 use Rattle.laws.proofs.Tests.{never}
 use Rattle.laws.proofs.Every.{both, every-true, every-in}
+use Rattle.laws.proofs.RowNumbers.{rows-numbers}
 use Rattle.paper.specs.Rows.{Row, signed, rows-in, numbers, find}
 use Rattle.paper.specs.Checks.{every, row-fits, production-fits, before, rising}
 use Rattle.paper.specs.Build.{insert}
@@ -24,10 +25,9 @@ use Rattle.rows.proofs.Bracket.{fit-at}
 use Rattle.rows.proofs.Found.{found}
 use Rattle.trees.proofs.Find.{In}
 use Rattle.trees.proofs.Rising.{true-rising, rising-true, rising-insert, in-insert}
-use Rattle.grow.specs.Moves.{inserted}
+use Rattle.grow.specs.Moves.{put-in, Inserted}
 use Rattle.grow.specs.Held.{held, Laid, Adding, next, Added}
 use Rattle.grow.proofs.Written.{
-  rows-numbers,
   numbers-append,
   numbers-take,
   numbers-drop,
@@ -53,13 +53,6 @@ insert-at r (x ∷ rs) (suc p) h b a =
       b 0 (omega arith),
       insert-at r rs p (omega arith) (λ k l. b (suc k) (omega arith)) (λ l. a (omega arith)),
     )
-
-drop-take : (i n : ℕ) (l : List ℤ) → i ≤ n → drop i (take n l) ≡ take (n - i) (drop i l)
-drop-take zero n l h = let e : n - zero ≡ n = omega arith in rw e
-drop-take (suc i) zero l h = absurd (omega arith)
-drop-take (suc i) (suc n) [] h = sym (take-nil (suc n - suc i))
-drop-take (suc i) (suc n) (x ∷ l) h =
-    let e : suc n - suc i ≡ n - i = omega arith in rw e (drop-take i n l (omega arith))
 
 pub uncoded-fits : (c : ℕ) → c ≤ 65536 → production-fits (uncoded c) ≡ true
 unfolding production-fits
@@ -98,11 +91,14 @@ module _ (buf : List ℤ) (n i s t c : ℕ) (a : Adding buf n i s t c) where
   abbrev r : Row
   r = next n s t c
 
+  laid : Laid buf n
+  laid = a .missed .laid
+
   numbers-long : length ns ≡ n * 4
-  numbers-long = held-numbers buf n (room buf n (a .laid))
+  numbers-long = held-numbers buf n (room buf n (laid))
 
   pub place-within : i ≤ n
-  place-within = omega (arith, a .place .within, numbers-long)
+  place-within = omega (arith, a .missed .place .within, numbers-long)
 
   -- by their keys the rows before the place are lower, and the row there is higher
   row-of : (k : ℕ) → k < n → getD rs k no-row ≡ row-at ns k
@@ -110,24 +106,24 @@ module _ (buf : List ℤ) (n i s t c : ℕ) (a : Adding buf n i s t c) where
 
   by-key : (k : ℕ) → k < n → before r (getD rs k no-row) ≡ ltb (key r) (key (row-at ns k))
   by-key k h =
-      let m : row-at ns k .terminal ≤ 65535 = fit-at (a .laid .passed) k (omega (arith, numbers-long)) .terminal in
+      let m : row-at ns k .terminal ≤ 65535 = fit-at (laid .passed) k (omega (arith, numbers-long)) .terminal in
       ap (before r) (row-of k h) ∙ before-key r (row-at ns k) (a .terminal) m
 
   lower : (k : ℕ) → k < i → before r (getD rs k no-row) ≡ false
   lower k h =
       let m : k < n = omega (arith, place-within) in
-      let q : key (row-at ns k) ≤ key r = omega (arith, a .place .below k h) in
+      let q : key (row-at ns k) ≤ key r = omega (arith, a .missed .place .below k h) in
       by-key k m ∙ le-ltb (key r) (key (row-at ns k)) q
 
   -- the row there does not have the key itself
   apart : i < n → key r ≡ key (row-at ns i) → ⊥
   apart h e =
       let l : i < length ns / 4 = omega (arith, numbers-long) in
-      never (sym (a .new) ∙ found ns s t i (a .place) (a .laid .passed) (a .terminal) l (sym e))
+      never (sym (a .missed .new) ∙ found ns s t i (a .missed .place) (laid .passed) (a .terminal) l (sym e))
 
   higher : i < n → before r (getD rs i no-row) ≡ true
   higher h =
-      let q : s * 65536 + t ≤ key (row-at ns i) = a .place .above i (omega arith) (omega (arith, numbers-long)) in
+      let q : s * 65536 + t ≤ key (row-at ns i) = a .missed .place .above i (omega arith) (omega (arith, numbers-long)) in
       let m : key r < key (row-at ns i) = above (key r) (key (row-at ns i)) q (apart h) in
       by-key i h ∙ lt-ltb (key r) (key (row-at ns i)) m
     where
@@ -135,58 +131,37 @@ module _ (buf : List ℤ) (n i s t c : ℕ) (a : Adding buf n i s t c) where
       above x y q d = compared x y (λ z. z) (λ z. absurd (d z)) (λ z. absurd (omega arith))
 
   rows-long : length rs ≡ n
-  rows-long = held-length buf n (room buf n (a .laid))
+  rows-long = held-length buf n (room buf n (laid))
 
   split : insert r rs ≡ take i rs ++ (r ∷ drop i rs)
   split =
       let m : length rs ≡ n = rows-long in
       insert-at r rs i (omega (arith, place-within)) lower (λ h. higher (omega arith))
 
-  module _ (new : List ℤ)
-      (e : new ≡ inserted buf n i (pos s) (pos t) (pos (suc n)) (signed (uncoded c)))
-      (same : length new ≡ length buf) where
-    abbrev row : List ℤ
-    row = pos s ∷ pos t ∷ pos (suc n) ∷ signed (uncoded c) ∷ drop (i * 4) ns
-
-    cut : new ≡ (take (i * 4) ns ++ row) ++ drop (n * 4 + 4) buf
-    unfolding inserted
-    cut =
-        let l : i * 4 ≤ n * 4 = omega (arith, place-within) in
-        e ∙ rw (← take-take (i * 4) (n * 4) buf l, ← drop-take (i * 4) (n * 4) buf l)
-        (sym (append-assoc (take (i * 4) ns) row (drop (n * 4 + 4) buf)))
-
-    pub now-written : take (suc n * 4) new ≡ numbers (insert r rs)
+  module _ (new : List ℤ) (e : Inserted buf new n i (pos s) (pos t) (pos (suc n)) (signed (uncoded c))) where
+    now-written : take (suc n * 4) new ≡ numbers (insert r rs)
+    unfolding put-in
     now-written =
-        let b : length (take (i * 4) ns ++ row) ≡ suc n * 4 =
-        omega (
-          arith,
-          length-append (take (i * 4) ns) row,
-          length-take-le (i * 4) ns
-              (omega (arith, numbers-long, place-within)),
-          length-drop (i * 4) ns,
-          numbers-long,
-          place-within,
-        ) in
-        let w : numbers rs ≡ ns = written buf n (a .laid) in
-        ap (take (suc n * 4)) cut ∙ take-at (take (i * 4) ns ++ row) (drop (n * 4 + 4) buf) (suc n * 4) b
-        ∙ sym (ap numbers split ∙ numbers-append (take i rs) (r ∷ drop i rs)
-        ∙ rw (numbers-take i rs, numbers-drop i rs, w))
+        let m : suc n * 4 ≡ n * 4 + 4 = omega arith in
+        let w : numbers rs ≡ ns = written buf n laid in
+        rw m (e .rows ∙ sym (ap numbers split ∙ numbers-append (take i rs) (r ∷ drop i rs)
+        ∙ rw (numbers-take i rs, numbers-drop i rs, w)))
 
     pub added : Added buf new n i s t c
     added = record {
       there = omega (arith, place-within);
-      at = sym (held-at new (suc n) (omega (arith, a .more, a .laid .room)) i (omega (arith, place-within)))
+      at = sym (held-at new (suc n) (omega (arith, a .more, laid .room, e .room)) i (omega (arith, place-within)))
           ∙ ap (λ (l : List Row). getD l i no-row) (ap rows-in now-written ∙ rows-numbers (insert r rs) ∙ split)
           ∙ getD-at (take i rs) r (drop i rs) no-row i (length-take-le i rs (omega (arith, place-within, rows-long)));
-      laid = laid-by new (suc n) (insert r rs) (omega (arith, a .more)) (omega (arith, a .laid .room)) now-written
+      laid = laid-by new (suc n) (insert r rs) (omega (arith, a .more)) (omega (arith, laid .room, e .room)) now-written
           (every-true row-fits (insert r rs)
           (λ x j. ⊎-elim (λ k. ap row-fits k ∙ own) (λ k. old x k) (in-insert r rs x j)))
-          (rising-true (insert r rs) (rising-insert r rs (true-rising rs (a .laid .passed .rises)) (a .new)));
+          (rising-true (insert r rs) (rising-insert r rs (true-rising rs (laid .passed .rises)) (a .missed .new)));
       rows = ap rows-in now-written ∙ rows-numbers (insert r rs);
     }
       where
         own : row-fits r ≡ true
-        own = fitting r (a .from) (a .terminal) (omega (arith, a .more)) (uncoded-fits c (a .production))
+        own = fitting r (a .missed .from) (a .terminal) (omega (arith, a .more)) (uncoded-fits c (a .production))
 
         old : (x : Row) → In x rs → row-fits x ≡ true
-        old x k = every-in row-fits rs (a .laid .passed .fits) x k
+        old x k = every-in row-fits rs (laid .passed .fits) x k

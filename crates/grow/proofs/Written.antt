@@ -17,18 +17,6 @@ use Rattle.rows.proofs.Fits.{Fit, fit}
 use Rattle.rows.proofs.Rest.{length-rows}
 use Rattle.grow.specs.Held.{held, row-held}
 
-accepting-signed : (q : Option ℕ) → accepting (signed q) ≡ q
-accepting-signed none = refl
-accepting-signed (some q) = refl
-
-pub rows-numbers : (rs : List Row) → rows-in (numbers rs) ≡ rs
-rows-numbers [] = refl
-rows-numbers (r ∷ rs) = rw (accepting-signed (r .production), rows-numbers rs)
-
-pub length-numbers : (rs : List Row) → length (numbers rs) ≡ length rs * 4
-length-numbers [] = refl
-length-numbers (r ∷ rs) = omega (arith, length-numbers rs)
-
 pub numbers-append : (a b : List Row) → numbers (a ++ b) ≡ numbers a ++ numbers b
 numbers-append [] b = refl
 numbers-append (r ∷ a) b = rw (numbers-append a b)

@@ -1,16 +1,22 @@
--- Rows at the front of an array: what stands there, and what a new row and a new production make of it.
+-- Rows that stand in an array from a row on: what stands there, and what a new row and a new production make of it.
 use mathlib.Core.Path.{_≡_}
 use mathlib.Core.Option.{Option, none, some}
 use mathlib.Core.List.{List, map}
 use Prim.Native.Nat.{ℕ, suc, _+_, _*_, _≤_, _<_}
-use lib.ListN.{length, take}
+use lib.ListN.{length, take, drop}
 use lib.IntN.{ℤ}
 use Rattle.paper.specs.Rows.{Row, Table, rows-in, find}
 use Rattle.paper.specs.Build.{insert}
 use Rattle.rows.specs.Places.{row-at, uncoded}
 use Rattle.rows.specs.Search.{Passed, Lower}
+use Rattle.rows.specs.declared.search.Found.{Found}
+use Rattle.rows.specs.declared.search.Found.the-variants.{At, Missing}
 use Rattle.trees.proofs.Paint.{paint}
 use Rattle.trees.proofs.Tree.{Tree}
+
+-- The array from row lo on: where the rows of a table that grows stand.
+abbrev pub view : List ℤ → ℕ → List ℤ
+view buf lo = drop (lo * 4) buf
 
 -- The first n rows.
 abbrev pub held : List ℤ → ℕ → List Row
@@ -30,15 +36,24 @@ pub record Laid (buf : List ℤ) (n : ℕ) : Type 0 where
 abbrev pub table-of : ℕ → ℕ → List ℤ → ℕ → Table
 table-of code k buf n = record { prod0 = uncoded code; k = k; rows = held buf n }
 
--- A row from s by t to the next state, whose place among the n rows is i.
-pub record Adding (buf : List ℤ) (n i s t code : ℕ) : Type 0 where
+-- The search found no row from s by t, and i is where it would go.
+pub record Missed (buf : List ℤ) (n i s t : ℕ) : Type 0 where
   pub laid : Laid buf n
-  pub more : n < 1023
   pub from : s ≤ 1023
-  pub terminal : t ≤ 65535
-  pub production : code ≤ 65536
   pub new : find (held buf n) s t ≡ none
   pub place : Lower (take (n * 4) buf) (s * 65536 + t) i
+
+-- Row i of n is the row from s by t; or there is none, and i is where it would go.
+abbrev pub Seeks : List ℤ → ℕ → ℕ → ℕ → Found → Type 0
+Seeks buf n s t (At i) = (i < n) × (find (held buf n) s t ≡ some (row-held buf n i))
+Seeks buf n s t (Missing i) = Missed buf n i s t
+
+-- A row from s by t to the next state, whose place among the n rows is i.
+pub record Adding (buf : List ℤ) (n i s t code : ℕ) : Type 0 where
+  pub missed : Missed buf n i s t
+  pub more : n < 1023
+  pub terminal : t ≤ 65535
+  pub production : code ≤ 65536
 
 abbrev pub next : ℕ → ℕ → ℕ → ℕ → Row
 next n s t code = record { from = s; terminal = t; to = suc n; production = uncoded code }
@@ -59,3 +74,8 @@ pub record Giving (buf : List ℤ) (n i code : ℕ) : Type 0 where
 pub record Given (old new : List ℤ) (n i code : ℕ) : Type 0 where
   pub laid : Laid new n
   pub rows : held new n ≡ map (paint (row-held old n i .to) (uncoded code)) (held old n)
+
+-- A production that a row carries, as its code.
+pub record Coded (q : Option ℕ) (r : ℕ) : Type 0 where
+  pub is : uncoded r ≡ q
+  pub small : r ≤ 65536

@@ -1,6 +1,7 @@
--- Four numbers at a time: a row overwritten, rows moved up by one, a row put in.
+-- Four numbers at a time: a row overwritten, rows moved up or down by one, a row put in.
+use mathlib.Core.Path.{_≡_}
 use mathlib.Core.List.{List, [], _∷_, _++_}
-use Prim.Native.Nat.{ℕ, _+_, _-_, _*_}
+use Prim.Native.Nat.{ℕ, _+_, _-_, _*_, _≤_}
 use lib.ListN.{length, getD, take, drop}
 use lib.IntN.{ℤ, pos}
 
@@ -25,6 +26,28 @@ opened l n p = take (p * 4 + 4) l ++ (take (n * 4 - p * 4) (drop (p * 4) l) ++ d
 unfoldable pub inserted : List ℤ → ℕ → ℕ → ℤ → ℤ → ℤ → ℤ → List ℤ
 inserted l n p w x y z =
     take (p * 4) l ++ (w ∷ x ∷ y ∷ z ∷ (take (n * 4 - p * 4) (drop (p * 4) l) ++ drop (n * 4 + 4) l))
+
+-- Row i is what row i + 1 is.
+abbrev pub down-row : List ℤ → ℕ → List ℤ
+down-row l i = over-row l i
+    (getD l (i * 4 + 4) (pos 0)) (getD l (i * 4 + 5) (pos 0)) (getD l (i * 4 + 6) (pos 0)) (getD l (i * 4 + 7) (pos 0))
+
+-- Rows i to i + 3 are what the rows after them are.
+abbrev pub down-four : List ℤ → ℕ → List ℤ
+down-four l i = down-row (down-row (down-row (down-row l i) (i + 1)) (i + 2)) (i + 3)
+
+-- Rows 1 to p stand one row lower; row p stands where it stood as well.
+unfoldable pub lowered : List ℤ → ℕ → List ℤ
+lowered l p = take (p * 4) (drop 4 l) ++ drop (p * 4) l
+
+-- The row w, x, y, z stands before row p.
+unfoldable pub put-in : List ℤ → ℕ → ℤ → ℤ → ℤ → ℤ → List ℤ
+put-in l p w x y z = take (p * 4) l ++ (w ∷ x ∷ y ∷ z ∷ drop (p * 4) l)
+
+-- Where n rows stood the row w, x, y, z stands before row p of them, and no room was lost.
+pub record Inserted (old new : List ℤ) (n p : ℕ) (w x y z : ℤ) : Type 0 where
+  pub rows : take (n * 4 + 4) new ≡ put-in (take (n * 4) old) p w x y z
+  pub room : length old ≤ length new
 
 -- What a slice that held old holds once new stands at its front.
 unfoldable pub front : List ℤ → List ℤ → List ℤ

@@ -1,94 +1,89 @@
-// Rows that grow: a row put where it belongs, or given a production, in a lent array.
+// Rows that grow: n rows stand in a lent array from row lo on, and a new row moves the fewer of them, up or down.
+mod down;
+mod up;
+
 use paper::Making;
 use paper::State;
 use paper::Terminal;
 use rows::numbers;
+use rows::search;
+use rows::search::Found;
 ghost use mathlib.Core.Path.{_≡_};
 ghost use Prim.Native.Nat.{_+_, _*_, _<_, _≤_, max};
 ghost use lib.ListN.{length};
 ghost use Rattle.paper.specs.Answers.{Makes};
 ghost use Rattle.paper.specs.Build.{within};
-ghost use Rattle.grow.specs.Moves.{over-row, up-row, up-four, opened, inserted, front};
-ghost use Rattle.grow.specs.Held.{Laid, table-of, Adding, Added, Giving, Given};
+ghost use Rattle.grow.specs.Moves.{Inserted, front};
+ghost use Rattle.grow.specs.Held.{view, row-held, Laid, table-of, Seeks, Adding, Added, Giving, Given, Coded};
 
-// Row i becomes four numbers.
-fn put_row(buf: &mut [i32], i: usize, w: i32, x: i32, y: i32, z: i32)
-    requires { ⌜ i * 4 + 3 < length (now buf) ⌝ }
-    ensures { λ _. ⌜ now (buf .exit) ≡ over-row (now (buf .entry)) i w x y z ⌝ }
+// The row of a state and a terminal among n rows, or where it would go.
+pub fn find(buf: &[i32], lo: usize, n: usize, s: State, t: Terminal) -> Found
+    requires { ⌜ Laid (view (now buf) lo) n × (s .0 ≤ 1023) ⌝ }
+    ensures { λ r. ⌜ Seeks (view (now (buf .entry)) lo) n (s .0) (t .0) r ⌝ }
 {
-    buf[i * 4] = w;
-    buf[i * 4 + 1] = x;
-    buf[i * 4 + 2] = y;
-    buf[i * 4 + 3] = z;
+    let first = lo * 4;
+    search::find(&buf[first..first + n * 4], s.0 as usize, t.0 as usize)
 }
 
-// Row i is copied to row i + 1.
-fn move_row(buf: &mut [i32], i: usize)
-    requires { ⌜ i * 4 + 7 < length (now buf) ⌝ }
-    ensures { λ _. ⌜ now (buf .exit) ≡ up-row (now (buf .entry)) i ⌝ }
+// The state that row i of n leads to.
+pub fn to_at(buf: &[i32], lo: usize, n: usize, i: usize) -> State
+    requires { ⌜ Laid (view (now buf) lo) n × (i < n) ⌝ }
+    ensures { λ r. ⌜ (r .0 ≡ row-held (view (now (buf .entry)) lo) n i .to) × (r .0 ≤ 1023) ⌝ }
 {
-    let w = buf[i * 4];
-    let x = buf[i * 4 + 1];
-    let y = buf[i * 4 + 2];
-    let z = buf[i * 4 + 3];
-    put_row(buf, i + 1, w, x, y, z);
+    State(numbers::to_at(buf, lo + i) as u16)
 }
 
-// Rows i to i + 3 are each copied to the next, the last first.
-fn move_four(buf: &mut [i32], i: usize)
-    requires { ⌜ i * 4 + 19 < length (now buf) ⌝ }
-    ensures { λ _. ⌜ now (buf .exit) ≡ up-four (now (buf .entry)) i ⌝ }
+// The code of the production of row i of n.
+pub fn code_at(buf: &[i32], lo: usize, n: usize, i: usize) -> usize
+    requires { ⌜ Laid (view (now buf) lo) n × (i < n) ⌝ }
+    ensures { λ r. ⌜ Coded (row-held (view (now (buf .entry)) lo) n i .production) r ⌝ }
 {
-    move_row(buf, i + 3);
-    move_row(buf, i + 2);
-    move_row(buf, i + 1);
-    move_row(buf, i);
+    numbers::code_at(buf, lo + i)
 }
 
-// The rows from p on, of n, go up by one row, the last first; four a turn cost less than one.
-fn open_rows(buf: &mut [i32], n: usize, p: usize)
-    requires { ⌜ (p ≤ n) × (n * 4 + 3 < length (now buf)) ⌝ }
-    ensures { λ _. ⌜ now (buf .exit) ≡ opened (now (buf .entry)) n p ⌝ }
+// Four numbers are put in before row p of n, and the fewer rows make room; the answer is where the rows now begin.
+fn insert(buf: &mut [i32], lo: usize, n: usize, p: usize, w: i32, x: i32, y: i32, z: i32) -> usize
+    requires { ⌜ (p ≤ n) × (n * 4 + 3 < length (view (now buf) lo)) ⌝ }
+    ensures { λ r. ⌜ Inserted (view (now (buf .entry)) lo) (view (now (buf .exit)) r) n p w x y z ⌝ }
 {
-    let mut i = n;
-    while p < i {
-        if p + 4 <= i {
-            i -= 4;
-            move_four(buf, i);
-            continue;
+    if 0 < lo {
+        if p + p < n {
+            let low = lo - 1;
+            down::insert_row(&mut buf[low * 4..], p, w, x, y, z);
+            return low;
         }
-        i -= 1;
-        move_row(buf, i);
     }
-}
-
-// Four numbers are put in before row p of n.
-fn insert_row(buf: &mut [i32], n: usize, p: usize, w: i32, x: i32, y: i32, z: i32)
-    requires { ⌜ (p ≤ n) × (n * 4 + 3 < length (now buf)) ⌝ }
-    ensures { λ _. ⌜ now (buf .exit) ≡ inserted (now (buf .entry)) n p w x y z ⌝ }
-{
-    open_rows(buf, n, p);
-    put_row(buf, p, w, x, y, z);
+    up::insert_row(&mut buf[lo * 4..], n, p, w, x, y, z);
+    lo
 }
 
 // The row from s by t to the next state, with the production of a code, is put in at its place i among n rows.
-pub fn add(buf: &mut [i32], n: usize, i: usize, s: State, t: Terminal, code: usize)
-    requires { ⌜ Adding (now buf) n i (s .0) (t .0) code ⌝ }
-    ensures { λ _. ⌜ Added (now (buf .entry)) (now (buf .exit)) n i (s .0) (t .0) code ⌝ }
+// The answer is where the rows now begin.
+pub fn add(
+    buf: &mut [i32],
+    lo: usize,
+    n: usize,
+    i: usize,
+    s: State,
+    t: Terminal,
+    code: usize,
+) -> usize
+    requires { ⌜ Adding (view (now buf) lo) n i (s .0) (t .0) code ⌝ }
+    ensures { λ r. ⌜ Added (view (now (buf .entry)) lo) (view (now (buf .exit)) r) n i (s .0) (t .0) code ⌝ }
 {
     let from = numbers::number_of(s.0 as usize);
     let terminal = numbers::number_of(t.0 as usize);
     let to = numbers::number_of(n + 1);
     let production = numbers::production_of(code);
-    insert_row(buf, n, i, from, terminal, to, production);
+    insert(buf, lo, n, i, from, terminal, to, production)
 }
 
 // The state that row i of n leads to gets the production of a code.
-pub fn give(buf: &mut [i32], n: usize, i: usize, code: usize)
-    requires { ⌜ Giving (now buf) n i code ⌝ }
-    ensures { λ _. ⌜ Given (now (buf .entry)) (now (buf .exit)) n i code ⌝ }
+pub fn give(buf: &mut [i32], lo: usize, n: usize, i: usize, code: usize)
+    requires { ⌜ Giving (view (now buf) lo) n i code ⌝ }
+    ensures { λ _. ⌜ Given (view (now (buf .entry)) lo) (view (now (buf .exit)) lo) n i code ⌝ }
 {
-    buf[i * 4 + 3] = numbers::production_of(code);
+    buf[(lo + i) * 4 + 3] = numbers::production_of(code);
 }
 
 // The numbers of src at the front of out.
@@ -103,12 +98,22 @@ pub fn copy_front(src: &[i32], out: &mut [i32])
     }
 }
 
-// A table whose rows stand in the array: its rows at the front of the output, and the answer.
-pub fn finish(buf: &[i32], n: usize, code: usize, k: usize, out: &mut [i32]) -> Making
-    requires { ⌜ Laid (now buf) n × (code ≤ 65536) × (16384 ≤ length (now out)) ⌝ }
-    ensures { λ r. ⌜ Makes (within (table-of code k (now (buf .entry)) n)) r (now (out .entry)) (now (out .exit)) ⌝ }
+// The numbers of src where rows begin in an array.
+pub fn copy_rows(src: &[i32], buf: &mut [i32], lo: usize)
+    requires { ⌜ lo * 4 + length (now src) ≤ length (now buf) ⌝ }
+    ensures { λ _. ⌜ view (now (buf .exit)) lo ≡ front (now (src .entry)) (view (now (buf .entry)) lo) ⌝ }
 {
-    copy_front(&buf[..n * 4], out);
+    copy_front(src, &mut buf[lo * 4..]);
+}
+
+// A table whose rows stand in the array: its rows at the front of the output, and the answer.
+pub fn finish(buf: &[i32], lo: usize, n: usize, code: usize, k: usize, out: &mut [i32]) -> Making
+    requires { ⌜ Laid (view (now buf) lo) n × (code ≤ 65536) × (16384 ≤ length (now out)) ⌝ }
+    ensures { λ r. ⌜ Makes (within (table-of code k (view (now (buf .entry)) lo) n))
+        r (now (out .entry)) (now (out .exit)) ⌝ }
+{
+    let first = lo * 4;
+    copy_front(&buf[first..first + n * 4], out);
     Making::Made {
         prod0: numbers::production_of(code),
         k,

@@ -13,43 +13,17 @@ use Rattle.paper.specs.Rows.{Row, find}
 use Rattle.paper.specs.Answers.{Ruling, accept, refuse, then}
 use Rattle.paper.specs.Build.{insert, Standing}
 use Rattle.paper.specs.Unite.{taken}
-use Rattle.rows.specs.Places.{row-at, code, uncoded}
-use Rattle.rows.proofs.Bracket.{fit-at}
+use Rattle.rows.specs.Places.{uncoded}
 use Rattle.trees.proofs.Find.{length-insert}
 use Rattle.trees.proofs.Paint.{paint}
-use Rattle.grow.specs.Held.{held, row-held, Laid, next, Adding, Added, Giving, Given}
-use Rattle.grow.proofs.Written.{held-numbers, held-length, held-row}
+use Rattle.grow.specs.Held.{held, row-held, Laid, Missed, next, Adding, Added, Given}
+use Rattle.grow.proofs.Written.{held-length}
 use Rattle.grow.proofs.Placed.{room}
-use Rattle.unite.specs.Taking.{taking, Stands, Over, Takes, Missed, Hit}
+use Rattle.unite.specs.Taking.{taking, Stands, Over, Takes}
 use Rattle.unite.specs.declared.taking.Took.{Took}
 
-pub uncoded-code : (q : Option ℕ) → uncoded (code q) ≡ q
-uncoded-code none = refl
-uncoded-code (some q) = refl
-
--- what the search found, and what is read there
-pub found-below : (buf : List ℤ) (n i : ℕ) → Laid buf n → i < length (take (n * 4) buf) / 4 → i < n
-found-below buf n i l h = omega (arith, held-numbers buf n (room buf n l))
-
-module _ (buf : List ℤ) (n i : ℕ) (l : Laid buf n) (h : i < n) where
-  read : row-at buf i ≡ row-held buf n i
-  read = sym (held-row buf n (room buf n l) i h)
-
-  pub to-read : (to : ℕ) → to ≡ row-at buf i .to → (to ≡ row-held buf n i .to) × (to ≤ 1023)
-  to-read to e =
-      let d : to ≡ row-held buf n i .to = e ∙ ap (λ (x : Row). x .to) read in
-      (d, omega (arith, d, fit-at (l .passed) i (omega (arith, held-numbers buf n (room buf n l))) .to))
-
-  pub code-read : (p : ℕ) → p ≡ code (row-at buf i .production)
-      → (uncoded p ≡ row-held buf n i .production) × (p ≤ 65536)
-  code-read p e =
-      let d : p ≡ code (row-held buf n i .production) = e ∙ ap (λ (x : Row). code (x .production)) read in (
-        ap uncoded d ∙ uncoded-code (row-held buf n i .production),
-        omega (arith, d, fit-at (l .passed) i (omega (arith, held-numbers buf n (room buf n l))) .production),
-      )
-
 -- ---- a new row
-module _ (buf : List ℤ) (n i s t c : ℕ) (m : Missed buf n i s t c) (mode : Mode) where
+module _ (buf : List ℤ) (n i s t c : ℕ) (m : Missed buf n i s t) (mode : Mode) where
   as-next : taking mode (held buf n) s t (uncoded c) none
       ≡ accept (record { rows = insert (next n s t c) (held buf n); state = suc n })
   unfolding taking
@@ -74,16 +48,9 @@ module _ (buf : List ℤ) (n i s t c : ℕ) (m : Missed buf n i s t c) (mode : M
     is = as-next ∙ ap (λ (rs : List Row). accept (record { rows = rs; state = suc n })) (sym (a .rows));
   })
 
-pub adding : (buf : List ℤ) (n i s t c : ℕ) → Missed buf n i s t c → t ≤ 65535 → n < 1023 → Adding buf n i s t c
-adding buf n i s t c m k h = record {
-  laid = m .laid;
-  more = h;
-  from = m .from;
-  terminal = k;
-  production = m .production;
-  new = m .new;
-  place = m .place;
-}
+pub adding : (buf : List ℤ) (n i s t c : ℕ) → Missed buf n i s t → c ≤ 65536 → t ≤ 65535 → n < 1023
+    → Adding buf n i s t c
+adding buf n i s t c m q k h = record { missed = m; more = h; terminal = k; production = q }
 
 -- ---- a row that is there
 module _ (mode : Mode) (rs : List Row) (x : Row) (p : ℕ) (q : Option ℕ) (e : uncoded p ≡ x .production) (s t : ℕ) where

@@ -11,9 +11,8 @@ use Rattle.paper.specs.declared.Making.{Making}
 use Rattle.paper.specs.Answers.{Ruling, accept, refuse, then, Made, Makes}
 use Rattle.paper.specs.Build.{insert, Standing, within}
 use Rattle.paper.specs.Unite.{taken, United, take-rows}
-use Rattle.rows.specs.Places.{code, uncoded}
-use Rattle.rows.specs.Search.{Lower, Passed}
-use Rattle.grow.specs.Held.{held, row-held, Laid}
+use Rattle.rows.specs.Search.{Passed}
+use Rattle.grow.specs.Held.{view, held, Laid}
 use Rattle.trees.proofs.Paint.{paint}
 use Rattle.trees.proofs.Tree.{Tree}
 use Rattle.unite.specs.declared.taking.Took.{Took}
@@ -51,8 +50,9 @@ pub record Over (g : Ruling Standing) : Type 0 where
   pub is : g ≡ accept standing
   pub over : 1023 < length (standing .rows)
 
+-- What came of one row, seen from where the array's rows begin.
 abbrev pub Takes : List ℤ → Ruling Standing → Took → Type 0
-Takes new g (took.Row n s) = Stands new n (s .0) g
+Takes new g (took.Row lo n s) = Stands (view new lo) n (s .0) g
 Takes new g (took.Clash p q) = g ≡ refuse 8 (p .0 ∷ q .0 ∷ [])
 Takes new g took.Full = Over g
 
@@ -62,14 +62,6 @@ Adds new rs s t q r = (mode : Mode) → Takes new (taking mode rs s t q none) r
 
 abbrev pub Matches : Mode → List ℤ → List Row → Option ℕ → Row → Took → Type 0
 Matches mode new rs q x r = (s t : ℕ) → Takes new (taking mode rs s t q (some x)) r
-
--- The search found no row, and i is where it would go.
-pub record Missed (buf : List ℤ) (n i s t code : ℕ) : Type 0 where
-  pub laid : Laid buf n
-  pub from : s ≤ 1023
-  pub production : code ≤ 65536
-  pub new : find (held buf n) s t ≡ none
-  pub place : Lower (take (n * 4) buf) (s * 65536 + t) i
 
 -- The search found row i of a tree.
 pub record Hit (buf : List ℤ) (n i code : ℕ) : Type 0 where
@@ -100,7 +92,7 @@ pub record Accepts (mode : Mode) (xs ys : List Row) : Type 0 where
   pub is : (p : Option ℕ) (k : ℕ) → (u : United) × (all-rows mode xs ys p k ≡ accept u)
 
 abbrev pub United-rows : Mode → List Row → List Row → List ℤ → Union → Type 0
-United-rows mode xs ys new (union.Rows n) = Unites mode xs ys new n
+United-rows mode xs ys new (union.Rows lo n) = Unites mode xs ys (view new lo) n
 United-rows mode xs ys new (union.Clash p q) = Clashes mode xs ys (p .0) (q .0)
 United-rows mode xs ys new union.Full = Overflows mode xs ys
 

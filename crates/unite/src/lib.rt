@@ -34,20 +34,21 @@ fn full(mode: Mode, a: &[i32], b: &[i32]) -> Making
     }
 }
 
-// The second's rows taken into an array with the first's, and the rows at the front of the output.
+// The second's rows taken into an array with the first's, which begin in its middle, and the rows at the front of the
+// output.
 fn joined(mode: Mode, code: usize, k: usize, a: &[i32], b: &[i32], out: &mut [i32]) -> Making
     requires { ⌜ Treed (now a) × Treed (now b) × (code ≤ 65536) × (16384 ≤ length (now out)) ⌝ }
     ensures { λ r. ⌜ Makes (joining mode (uncoded code) k (rows-in (now (a .entry))) (rows-in (now (b .entry))))
         r (now (out .entry)) (now (out .exit)) ⌝ }
 {
-    let mut buf = [0i32; 4096];
+    let mut buf = [0i32; 8192];
     let mut map = [0u16; 1024];
-    grow::copy_front(a, &mut buf);
-    let union = taking::take_rows(mode, &mut buf, a.len() / 4, b, &mut map);
+    grow::copy_rows(a, &mut buf, 1024);
+    let union = taking::take_rows(mode, &mut buf, 1024, a.len() / 4, b, &mut map);
     match union {
         Union::Clash(p, q) => Making::Refused(Refusal::Clash(p, q)),
         Union::Full => full(mode, a, b),
-        Union::Rows(n) => grow::finish(&buf, n, code, k, out),
+        Union::Rows { lo, rows } => grow::finish(&buf, lo, rows, code, k, out),
     }
 }
 

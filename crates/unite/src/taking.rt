@@ -10,56 +10,67 @@ use rows::search::Found;
 ghost use Prim.Native.Nat.{_≤_};
 ghost use Rattle.paper.specs.Rows.{find, rows-in};
 ghost use Rattle.rows.specs.Places.{uncoded};
-ghost use Rattle.grow.specs.Held.{held, row-held, Laid};
+ghost use Rattle.grow.specs.Held.{view, held, row-held, Laid, Missed};
 ghost use Rattle.trees.proofs.Tree.{Tree};
 ghost use Rattle.ruled.specs.Into.{Clear};
-ghost use Rattle.unite.specs.Taking.{taking, Takes, Adds, Matches, Missed, Hit, United-rows, Treed};
+ghost use Rattle.unite.specs.Taking.{taking, Takes, Adds, Matches, Hit, United-rows, Treed};
 
-// What came of one row: how many rows there are and the state that it matches, CLASH, or a row too many.
+// What came of one row: where the rows begin, how many they are and the state that it matches; CLASH; or a row too many.
 pub enum Took {
-    Row { rows: usize, state: State },
+    Row {
+        lo: usize,
+        rows: usize,
+        state: State,
+    },
     Clash(Production, Production),
     Full,
 }
 
-// What came of all rows: how many rows there are, CLASH, or a row too many.
+// What came of all rows: where the rows begin and how many they are, CLASH, or a row too many.
 pub enum Union {
-    Rows(usize),
+    Rows { lo: usize, rows: usize },
     Clash(Production, Production),
     Full,
 }
 
 // A row that the first does not have: into a new state, unless there are 1,023 rows.
-fn added(buf: &mut [i32], n: usize, i: usize, from: State, token: Terminal, code: usize) -> Took
-    requires { ⌜ Missed (now buf) n i (from .0) (token .0) code ⌝ }
-    ensures { λ r. ⌜ Adds (now (buf .exit)) (held (now (buf .entry)) n) (from .0) (token .0) (uncoded code) r ⌝ }
+fn added(
+    buf: &mut [i32],
+    lo: usize,
+    n: usize,
+    i: usize,
+    from: State,
+    token: Terminal,
+    code: usize,
+) -> Took
+    requires { ⌜ Missed (view (now buf) lo) n i (from .0) (token .0) × (code ≤ 65536) ⌝ }
+    ensures { λ r. ⌜ Adds (now (buf .exit)) (held (view (now (buf .entry)) lo) n) (from .0) (token .0)
+        (uncoded code) r ⌝ }
 {
     if 1023 <= n {
         return Took::Full;
     }
-    grow::add(buf, n, i, from, token, code);
+    let low = grow::add(buf, lo, n, i, from, token, code);
     Took::Row {
+        lo: low,
         rows: n + 1,
         state: State((n + 1) as u16),
     }
 }
 
 // A row that the first has as its row i: the state that it leads to takes a production.
-fn matched(mode: Mode, buf: &mut [i32], n: usize, i: usize, code: usize) -> Took
-    requires { ⌜ Hit (now buf) n i code ⌝ }
-    ensures { λ r. ⌜ Matches mode (now (buf .exit)) (held (now (buf .entry)) n) (uncoded code)
-        (row-held (now (buf .entry)) n i) r ⌝ }
+fn matched(mode: Mode, buf: &mut [i32], lo: usize, n: usize, i: usize, code: usize) -> Took
+    requires { ⌜ Hit (view (now buf) lo) n i code ⌝ }
+    ensures { λ r. ⌜ Matches mode (now (buf .exit)) (held (view (now (buf .entry)) lo) n) (uncoded code)
+        (row-held (view (now (buf .entry)) lo) n i) r ⌝ }
 {
-    let to = numbers::to_at(buf, i) as u16;
-    let met = meet::taken(mode, numbers::code_at(buf, i), code);
+    let state = grow::to_at(buf, lo, n, i);
+    let met = meet::taken(mode, grow::code_at(buf, lo, n, i), code);
     match met {
         Meet::Clash(p, q) => Took::Clash(p, q),
         Meet::Code(c) => {
-            grow::give(buf, n, i, c);
-            Took::Row {
-                rows: n,
-                state: State(to),
-            }
+            grow::give(buf, lo, n, i, c);
+            Took::Row { lo, rows: n, state }
         }
     }
 }
@@ -68,20 +79,22 @@ fn matched(mode: Mode, buf: &mut [i32], n: usize, i: usize, code: usize) -> Took
 fn take_row(
     mode: Mode,
     buf: &mut [i32],
+    lo: usize,
     n: usize,
     from: State,
     token: Terminal,
     code: usize,
 ) -> Took
-    requires { ⌜ Laid (now buf) n × Tree (held (now buf) n) × (from .0 ≤ 1023) × (code ≤ 65536) ⌝ }
+    requires { ⌜ Laid (view (now buf) lo) n × Tree (held (view (now buf) lo) n) × (from .0 ≤ 1023)
+        × (code ≤ 65536) ⌝ }
     ensures { λ r. ⌜ Takes (now (buf .exit))
-        (taking mode (held (now (buf .entry)) n) (from .0) (token .0) (uncoded code)
-        (find (held (now (buf .entry)) n) (from .0) (token .0))) r ⌝ }
+        (taking mode (held (view (now (buf .entry)) lo) n) (from .0) (token .0) (uncoded code)
+        (find (held (view (now (buf .entry)) lo) n) (from .0) (token .0))) r ⌝ }
 {
-    let found = rows::search::find(&buf[..n * 4], from.0 as usize, token.0 as usize);
+    let found = grow::find(buf, lo, n, from, token);
     match found {
-        Found::At(i) => matched(mode, buf, n, i, code),
-        Found::Missing(i) => added(buf, n, i, from, token, code),
+        Found::At(i) => matched(mode, buf, lo, n, i, code),
+        Found::Missing(i) => added(buf, lo, n, i, from, token, code),
     }
 }
 
@@ -89,28 +102,33 @@ fn take_row(
 pub fn take_rows(
     mode: Mode,
     buf: &mut [i32],
+    lo: usize,
     count: usize,
     b: &[i32],
     map: &mut [u16; 1024],
 ) -> Union
-    requires { ⌜ Laid (now buf) count × Tree (held (now buf) count) × Treed (now b) × Clear (now map) ⌝ }
-    ensures { λ r. ⌜ United-rows mode (held (now (buf .entry)) count) (rows-in (now (b .entry))) (now (buf .exit)) r ⌝ }
+    requires { ⌜ Laid (view (now buf) lo) count × Tree (held (view (now buf) lo) count) × Treed (now b)
+        × Clear (now map) ⌝ }
+    ensures { λ r. ⌜ United-rows mode (held (view (now (buf .entry)) lo) count) (rows-in (now (b .entry)))
+        (now (buf .exit)) r ⌝ }
 {
+    let mut l = lo;
     let mut n = count;
     let mut i = 0;
     while i < b.len() / 4 {
         let from = State(map[numbers::from_at(b, i)]);
         let token = Terminal(numbers::terminal_at(b, i) as u16);
-        let took = take_row(mode, buf, n, from, token, numbers::code_at(b, i));
+        let took = take_row(mode, buf, l, n, from, token, numbers::code_at(b, i));
         match took {
             Took::Clash(p, q) => return Union::Clash(p, q),
             Took::Full => return Union::Full,
-            Took::Row { rows, state } => {
+            Took::Row { lo, rows, state } => {
                 map[numbers::to_at(b, i)] = state.0;
+                l = lo;
                 n = rows;
                 i += 1;
             }
         }
     }
-    Union::Rows(n)
+    Union::Rows { lo: l, rows: n }
 }

@@ -1,6 +1,6 @@
 use native.Mathlib.Omega.{arith}
 use Rattle.paper.specs.Build.{built, strings}
-use Rattle.grow.specs.Held.{table-of}
+use Rattle.grow.specs.Held.{view}
 use Rattle.grow.proofs.Answered.{laid-none, answers-full}
 use Rattle.build.specs.Steps.{Holds}
 use Rattle.build.proofs.Answering.{makes-as}
@@ -34,8 +34,8 @@ slice-aggregate-finish c = search needs
 
 -- the table that the array holds
 holds : (c : tie.After-known-told) → let s = c .before .before .before .before .before .before .before .before in
-    Holds (c .before .before .before .before .add-strings .last .0) (c .before .made .given .0 .0)
-    (c .before .made .given .0 .1 .0) (c .before .made .given .0 .1 .1 .0)
+    Holds (view (c .before .before .before .before .add-strings .last .0) (c .before .made .given .0 .0))
+    (c .before .made .given .0 .1 .0) (c .before .made .given .0 .1 .1 .0) (c .before .made .given .0 .1 .1 .1 .0)
     (built (s .args .production .0) (strings (s .args .lengths .now) (s .args .tokens .now)))
 holds c = rw (c .before .made .given .1) at (c .before .before .before .before .add-strings .ensures)
 

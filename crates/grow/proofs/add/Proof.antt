@@ -2,74 +2,75 @@ use mathlib.Core.Path.{ap, _∙_}
 use native.Mathlib.Omega.{arith}
 use native.Mathlib.Numerals.{add-one}
 use lib.IntN.{pos}
-use Rattle.grow.proofs.Shifted.{insert-same, passed-number, passed-production}
+use Rattle.grow.specs.Held.{view}
+use Rattle.grow.proofs.Shifted.{passed-number, passed-production}
+use Rattle.grow.proofs.Ends.{inserted-as}
 use Rattle.grow.proofs.Placed.{place-within, added}
 use borrow.Author.Needs.{needs}
 use Rattle.grow.proofs.add.Statement.{statement}
 use Rattle.grow.proofs.add.Tie as tie
 use Rattle.grow.proofs.add.Reads as reads
 use Rattle.grow.proofs.add.Lts as lts
-use Rattle.grow.proofs.insert_row.Reads as insert-row-reads
+use Rattle.grow.proofs.insert.Reads as insert-reads
 use Rattle.rows.proofs.numbers.number_of.Reads as number-of-reads
 use Rattle.rows.proofs.numbers.production_of.Reads as production-of-reads
 
--- src/lib.rt:60:35
+-- src/lib.rt:66:35
 cast-number-of : tie.Need-cast-number-of
 cast-number-of c = search needs
 
--- src/lib.rt:60:9
+-- src/lib.rt:66:9
 number-of-requires : tie.Need-number-of-requires
 number-of-requires c κs = search needs
 
--- src/lib.rt:61:39
+-- src/lib.rt:67:39
 cast-number-of-2 : tie.Need-cast-number-of-2
 cast-number-of-2 c = search needs
 
--- src/lib.rt:61:9
+-- src/lib.rt:67:9
 number-of-requires-2 : tie.Need-number-of-requires-2
 number-of-requires-2 c κs = search needs
 
--- src/lib.rt:62:33
+-- src/lib.rt:68:33
 add-number-of : tie.Need-add-number-of
 add-number-of c = search needs
 
--- src/lib.rt:62:9
+-- src/lib.rt:68:9
 number-of-requires-3 : tie.Need-number-of-requires-3
 number-of-requires-3 c κs = search needs
 
--- src/lib.rt:63:9
+-- src/lib.rt:69:9
 production-of-requires : tie.Need-production-of-requires
 production-of-requires c κs = search needs
 
--- src/lib.rt:64:5
-insert-row-requires : tie.Need-insert-row-requires
-insert-row-requires c κs =
+-- src/lib.rt:70:5
+insert-requires : tie.Need-insert-requires
+insert-requires c κs =
     let s = c .before .before .before .before .before .before .before in
     let a = s .args in
     let p = s .pre in (
-      place-within (a .buf .now) (a .n) (a .i) (a .s .0) (a .t .0) (a .code) p,
-      omega (arith, p .more, p .laid .room),
+      place-within (view (a .buf .now) (a .lo)) (a .n) (a .i) (a .s .0) (a .t .0) (a .code) p,
+      omega (arith, p .more, p .missed .laid .room),
     )
 
--- src/lib.rt:56:1
+-- src/lib.rt:62:1
 same-length : tie.Need-same-length
 same-length c = search needs
 
--- src/lib.rt:56:1
+-- src/lib.rt:62:1
 returns : tie.Need-returns
 returns c =
     let d = c .before .before .before in
     let s = d .before .before .before .before .before .before in
     let a = s .args in
     let p = s .pre in
-    added (a .buf .now) (a .n) (a .i) (a .s .0) (a .t .0) (a .code) p (c .before .insert-row .last .0)
-    (c .before .insert-row .ensures
-    ∙ insert-same (a .buf .now) (a .n) (a .i)
-    (passed-number _ (a .s .0) (d .before .before .before .before .number-of .ensures) (omega (arith, p .from)))
+    added (view (a .buf .now) (a .lo)) (a .n) (a .i) (a .s .0) (a .t .0) (a .code) p _
+    (inserted-as (passed-number _ (a .s .0) (d .before .before .before .before .number-of .ensures)
+    (omega (arith, p .missed .from)))
     (passed-number _ (a .t .0) (d .before .before .number-of2 .ensures) (p .terminal))
     (passed-number _ _ (d .before .number-of3 .ensures) (omega (arith, p .more)) ∙ ap pos (add-one (a .n)))
-    (passed-production _ (a .code) (d .production-of .ensures) (p .production)))
-    (c .before .insert-row .kept .0)
+    (passed-production _ (a .code) (d .production-of .ensures) (p .production))
+    (c .before .insert .ensures))
 
 pub add-spec : {M : Type 1} → statement M
 add-spec =
@@ -82,6 +83,6 @@ add-spec =
     add-number-of
     number-of-requires-3
     production-of-requires
-    insert-row-requires
+    insert-requires
     same-length
     returns)

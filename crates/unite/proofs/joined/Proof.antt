@@ -2,9 +2,10 @@ use mathlib.Core.Path.{_≡_, sym, subst}
 use mathlib.Core.List.{List}
 use Prim.Native.Nat.{_/_, _≤_}
 use native.Mathlib.Omega.{arith}
-use lib.ListN.{length}
+use lib.ListN.{length, length-drop}
 use Rattle.paper.specs.Rows.{Row, rows-in}
 use Rattle.rows.specs.Places.{uncoded}
+use Rattle.grow.specs.Held.{view}
 use Rattle.ruled.proofs.Arrays.{clear}
 use Rattle.trees.proofs.Tree.{Tree}
 use Rattle.unite.specs.Taking.{United-rows}
@@ -15,26 +16,26 @@ use Rattle.unite.proofs.joined.Statement.{statement}
 use Rattle.unite.proofs.joined.Tie as tie
 use Rattle.unite.proofs.joined.Reads as reads
 use Rattle.unite.proofs.joined.Lts as lts
-use Rattle.grow.proofs.copy_front.Reads as copy-front-reads
+use Rattle.grow.proofs.copy_rows.Reads as copy-rows-reads
 use Rattle.grow.proofs.finish.Reads as finish-reads
 use Rattle.unite.proofs.full.Reads as full-reads
 use Rattle.unite.proofs.taking.take_rows.Reads as take-rows-reads
 
 -- src/lib.rt:44:25
-slice-aggregate-copy-front : tie.Need-slice-aggregate-copy-front
-slice-aggregate-copy-front c = search needs
+slice-aggregate-copy-rows : tie.Need-slice-aggregate-copy-rows
+slice-aggregate-copy-rows c = search needs
 
 -- src/lib.rt:44:5
-copy-front-requires : tie.Need-copy-front-requires
-copy-front-requires c κs = search needs
+copy-rows-requires : tie.Need-copy-rows-requires
+copy-rows-requires c κs = search needs
 
 -- src/lib.rt:45:41
 slice-aggregate-take-rows : tie.Need-slice-aggregate-take-rows
 slice-aggregate-take-rows c = search needs
 
 -- the array with the first's rows, and what came of the second's
-long : (c : tie.After-copy-front) → 4092 ≤ length (c .copy-front .last .1 .0)
-long c = omega (arith, c .copy-front .kept .1 .0)
+long : (c : tie.After-copy-rows) → 4092 ≤ length (view (c .copy-rows .last .1 .0) 1024)
+long c = omega (arith, c .copy-rows .kept .1 .0, length-drop 4096 (c .copy-rows .last .1 .0))
 
 ended : (c : tie.After-take-rows) (x : Union) → c .take-rows .result ≡ x
     → let a = c .before .before .before .before .before .before .args in
@@ -44,7 +45,7 @@ ended c x e =
     let s = f .before .before in
     let a = s .args in
     union-as (a .mode) (rows-in (a .b .now)) (c .take-rows .last .1 .0)
-    (copied-rows (a .a .now) _ (f .copy-front .last .1 .0) (s .pre .0) (f .copy-front .ensures) (long f)) e
+    (copied-rows (a .a .now) _ (view (f .copy-rows .last .1 .0) 1024) (s .pre .0) (f .copy-rows .ensures) (long f)) e
     (c .take-rows .ensures)
 
 -- src/lib.rt:45:9
@@ -53,8 +54,8 @@ take-rows-requires c κs =
     let f = c .before .before .before in
     let s = f .before .before in
     let a = s .args in (
-      copied-laid (a .a .now) _ (f .copy-front .last .1 .0) (s .pre .0) (f .copy-front .ensures) (long f),
-      subst Tree (sym (copied-rows (a .a .now) _ (f .copy-front .last .1 .0) (s .pre .0) (f .copy-front .ensures)
+      copied-laid (a .a .now) _ (view (f .copy-rows .last .1 .0) 1024) (s .pre .0) (f .copy-rows .ensures) (long f),
+      subst Tree (sym (copied-rows (a .a .now) _ (view (f .copy-rows .last .1 .0) 1024) (s .pre .0) (f .copy-rows .ensures)
           (long f)))
           (s .pre .0 .tree),
       s .pre .1,
@@ -126,8 +127,8 @@ pub joined-spec : {M : Type 1} → statement M
 joined-spec =
     tie.close
     (tie.spec
-    slice-aggregate-copy-front
-    copy-front-requires
+    slice-aggregate-copy-rows
+    copy-rows-requires
     slice-aggregate-take-rows
     take-rows-requires
     enum-known-union

@@ -3,6 +3,7 @@ use mathlib.Core.List.{List}
 use Rattle.paper.specs.Rows.{Row}
 use Rattle.paper.specs.Build.{Standing, walk-in}
 use Rattle.trees.proofs.Tree.{Tree}
+use Rattle.grow.specs.Held.{view}
 use Rattle.build.specs.Steps.{standing, Stands}
 use Rattle.build.proofs.Walked.{walk-tree, marked}
 use borrow.Author.Needs.{needs}
@@ -35,16 +36,16 @@ returns c = rw (c .enum-told .given .1) at (c .before .before .before .walk .ens
 
 -- where the walk ended
 walked : (c : tie.After-known-told) → let s = c .before .before .before .before .before .before .before in
-    Stands (c .before .before .before .before .walk .last .0) (c .before .step .given .0 .0)
-    (c .before .step .given .0 .1 .0 .0) (c .before .step .given .0 .1 .1 .0)
-    (walk-in (standing (s .args .buf .now) (s .args .n) 0) (s .args .string .now))
+    Stands (view (c .before .before .before .before .walk .last .0) (c .before .step .given .0 .0))
+    (c .before .step .given .0 .1 .0) (c .before .step .given .0 .1 .1 .0 .0) (c .before .step .given .0 .1 .1 .1 .0)
+    (walk-in (standing (view (s .args .buf .now) (s .args .lo)) (s .args .n) 0) (s .args .string .now))
 walked c = rw (c .before .step .given .1) at (c .before .before .before .before .walk .ensures)
 
 -- src/strings.rt:115:5
 mark-requires : tie.Need-mark-requires
 mark-requires c κs =
     let s = c .before .before .before .before .before .before .before .before in
-    let w = standing (s .args .buf .now) (s .args .n) 0 in
+    let w = standing (view (s .args .buf .now) (s .args .lo)) (s .args .n) 0 in
     let e = walked (c .before) in (
       e .laid,
       subst (λ (v : Standing). Tree (v .rows)) (sym (e .is)) (walk-tree w (s .args .string .now) refl (s .pre .1)),
@@ -60,7 +61,7 @@ returns-2 : tie.Need-returns-2
 returns-2 c =
     let d = c .before .before .before in
     let s = d .before .before .before .before .before .before .before in
-    marked (s .args .buf .now) _ _ (s .args .n) _ _ _ (s .args .production .0) (s .args .string .now) (walked d)
+    marked (view (s .args .buf .now) (s .args .lo)) _ _ (s .args .n) _ _ _ (s .args .production .0) (s .args .string .now) (walked d)
     (c .before .mark .ensures)
 
 pub add-string-spec : {M : Type 1} → statement M

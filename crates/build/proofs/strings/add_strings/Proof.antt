@@ -4,6 +4,7 @@ use native.Mathlib.Omega.{arith}
 use lib.ListN.{length, getD, drop}
 use lib.Seq.{length-take-le}
 use borrow.Author.Needs.{needs}
+use Rattle.grow.specs.Held.{view}
 use Rattle.build.proofs.Listed.{Listing, lists-all, listed, len-fits, lists-full, lists-next}
 use Rattle.build.proofs.strings.add_strings.Statement.{statement}
 use Rattle.build.proofs.strings.add_strings.Tie as tie
@@ -15,11 +16,11 @@ use Rattle.grow.proofs.larger.Reads as larger-reads
 use Rattle.build.proofs.strings.next_code.Reads as next-code-reads
 
 abbrev Inv-loop : tie.InvT-loop
-Inv-loop buf₀ production tokens lengths rest₀ n₀ code₀ k₀ i₀ buf rest n code k i =
-    (length buf ≡ length buf₀) × Listing (production .0) tokens lengths buf rest n code k i
+Inv-loop buf₀ production tokens lengths rest₀ l₀ n₀ code₀ k₀ i₀ buf rest l n code k i =
+    (length buf ≡ length buf₀) × Listing (production .0) tokens lengths (view buf l) rest n code k i
 
 abbrev μ-loop : tie.MeasureT-loop
-μ-loop buf₀ production tokens lengths rest₀ n₀ code₀ k₀ i₀ buf rest n code k i = length lengths - i
+μ-loop buf₀ production tokens lengths rest₀ l₀ n₀ code₀ k₀ i₀ buf rest l n code k i = length lengths - i
 
 -- src/strings.rt:160:9
 first-code-requires : tie.Need-first-code-requires Inv-loop μ-loop
@@ -31,7 +32,7 @@ loop-holds c =
     let s = c .before .before .before in
     let a = s .args in (
       refl,
-      lists-all (a .production .0) (a .tokens .now) (a .lengths .now) (a .buf .now) _ (s .pre .0) (s .pre .1)
+      lists-all (a .production .0) (a .tokens .now) (a .lengths .now) (view (a .buf .now) 1024) _ (s .pre .0) (s .pre .1)
           (c .first-code .ensures),
     )
 
@@ -49,7 +50,7 @@ fits : (c : tie.After-shared-slice-known3 Inv-loop μ-loop) → let l = c .befor
 fits c =
     let l = c .before .before in
     let a = l .before .before .before .before .args in
-    len-fits (a .production .0) (a .tokens .now) (a .lengths .now) (l .loop .buf) (l .loop .rest .now) (l .loop .n)
+    len-fits (a .production .0) (a .tokens .now) (a .lengths .now) (view (l .loop .buf) (l .loop .l)) (l .loop .rest .now) (l .loop .n)
     (l .loop .code) (l .loop .k) (l .loop .i) (l .loop .inv .1) (omega arith)
 
 -- src/strings.rt:165:39
@@ -83,7 +84,7 @@ returns c =
     let e = c .before .before .before in
     let l = e .before .before .before .before .before in
     let a = l .before .before .before .before .args in
-    lists-full (a .production .0) (a .tokens .now) (a .lengths .now) (l .loop .buf) (l .loop .rest .now) (l .loop .n)
+    lists-full (a .production .0) (a .tokens .now) (a .lengths .now) (view (l .loop .buf) (l .loop .l)) (l .loop .rest .now) (l .loop .n)
     (l .loop .code) (l .loop .k) (l .loop .i) (l .loop .inv .1) (omega arith)
     (rw (c .enum-told .given .1) at (e .add-string .ensures))
 
@@ -139,7 +140,7 @@ loop-again c =
     let len = getD (a .lengths .now) (l .loop .i) 0 in (
       e .add-string .kept .0 ∙ l .loop .inv .0,
       rw (r .larger .ensures)
-          (lists-next (a .production .0) (a .tokens .now) (a .lengths .now) (l .loop .buf) (l .loop .rest .now)
+          (lists-next (a .production .0) (a .tokens .now) (a .lengths .now) (view (l .loop .buf) (l .loop .l)) (l .loop .rest .now)
           (l .loop .n)
           (l .loop .code) (l .loop .k) (l .loop .i) (l .loop .inv .1) (omega arith) _ _ _ _
           (rw (r .before .before .before .step .given .1) at (e .add-string .ensures)) (r .before .next-code .ensures)),
@@ -154,7 +155,7 @@ returns-2 : tie.Need-returns-2 Inv-loop μ-loop
 returns-2 c =
     let l = c .before in
     let a = l .before .before .before .before .args in
-    listed (a .production .0) (a .tokens .now) (a .lengths .now) (l .loop .buf) (l .loop .rest .now) (l .loop .n)
+    listed (a .production .0) (a .tokens .now) (a .lengths .now) (view (l .loop .buf) (l .loop .l)) (l .loop .rest .now) (l .loop .n)
     (l .loop .code) (l .loop .k) (l .loop .i) (l .loop .inv .1) (c .loop-test .left)
 
 pub add-strings-spec : {M : Type 1} → statement M

@@ -1,4 +1,5 @@
 use native.Mathlib.Omega.{arith}
+use Rattle.grow.specs.Held.{view}
 use Rattle.build.proofs.Walked.{mark-root, giving, mark-row}
 use borrow.Author.Needs.{needs}
 use Rattle.build.proofs.strings.mark.Statement.{statement}
@@ -11,7 +12,7 @@ use Rattle.grow.proofs.give.Reads as give-reads
 returns : tie.Need-returns
 returns c =
     let s = c .before in
-    mark-root (s .args .buf .now) (s .args .n) (s .args .state .0) (s .args .at) (s .args .production .0) (s .pre .0)
+    mark-root (view (s .args .buf .now) (s .args .lo)) (s .args .n) (s .args .state .0) (s .args .at) (s .args .production .0) (s .pre .0)
     (s .pre .1) (s .pre .2) (c .if1 .taken)
 
 -- src/strings.rt:103:24
@@ -30,7 +31,7 @@ add-give c = search needs
 give-requires : tie.Need-give-requires
 give-requires c κs =
     let s = c .before .before .before in
-    giving (s .args .buf .now) (s .args .n) (s .args .state .0) (s .args .at) (s .args .production .0) (s .pre .0)
+    giving (view (s .args .buf .now) (s .args .lo)) (s .args .n) (s .args .state .0) (s .args .at) (s .args .production .0) (s .pre .0)
     (s .pre .1) (s .pre .2) (c .before .before .if1 .left) (omega arith)
 
 -- src/strings.rt:96:1
@@ -41,7 +42,7 @@ same-length c = search needs
 returns-2 : tie.Need-returns-2
 returns-2 c =
     let s = c .before .before .before .before .before in
-    mark-row (s .args .buf .now) (s .args .n) (s .args .state .0) (s .args .at) (s .args .production .0) (s .pre .0)
+    mark-row (view (s .args .buf .now) (s .args .lo)) (s .args .n) (s .args .state .0) (s .args .at) (s .args .production .0) (s .pre .0)
     (s .pre .1) (s .pre .2) (c .before .before .before .before .if1 .left) _ (c .before .give .ensures)
 
 pub mark-spec : {M : Type 1} → statement M

@@ -3,6 +3,7 @@ use Prim.Native.Nat.{ℕ, _+_, _-_, _≤_}
 use native.Mathlib.Omega.{arith}
 use lib.ListN.{length, getD, drop}
 use borrow.Author.Needs.{needs}
+use Rattle.grow.specs.Held.{view}
 use Rattle.build.specs.Steps.{standing}
 use Rattle.build.proofs.Entered.{state-small}
 use Rattle.build.proofs.Walked.{Walking, walk-starts, walk-on, walk-full, walk-ends}
@@ -13,31 +14,31 @@ use Rattle.build.proofs.strings.walk.Lts as lts
 use Rattle.build.proofs.strings.enter.Reads as enter-reads
 
 abbrev Inv-loop : tie.InvT-loop
-Inv-loop buf₀ n string m₀ s₀ row₀ i₀ buf m s row i =
-    (length buf ≡ length buf₀) × Walking (standing buf₀ n 0) string buf m (s .0) row i
+Inv-loop buf₀ lo n string l₀ m₀ s₀ row₀ i₀ buf l m s row i =
+    (length buf ≡ length buf₀) × Walking (standing (view buf₀ lo) n 0) string (view buf l) m (s .0) row i
 
 abbrev μ-loop : tie.MeasureT-loop
-μ-loop buf₀ n string m₀ s₀ row₀ i₀ buf m s row i = length string - i
+μ-loop buf₀ lo n string l₀ m₀ s₀ row₀ i₀ buf l m s row i = length string - i
 
 -- src/strings.rt:78:5
 loop-holds : tie.Need-loop-holds Inv-loop μ-loop
 loop-holds c =
-    (refl, walk-starts (c .before .args .buf .now) (c .before .args .n) (c .before .args .string .now) (c .before .pre))
+    (refl, walk-starts (view (c .before .args .buf .now) (c .before .args .lo)) (c .before .args .n) (c .before .args .string .now) (c .before .pre))
 
 -- src/strings.rt:79:46
-mul-t12 : tie.Need-mul-t12 Inv-loop μ-loop
-mul-t12 c = search needs
+mul-t15 : tie.Need-mul-t15 Inv-loop μ-loop
+mul-t15 c = search needs
 
 -- src/strings.rt:79:46
-shared-slice-read-t17 : tie.Need-shared-slice-read-t17 Inv-loop μ-loop
-shared-slice-read-t17 c = omega arith
+shared-slice-read-t20 : tie.Need-shared-slice-read-t20 Inv-loop μ-loop
+shared-slice-read-t20 c = omega arith
 
 -- src/strings.rt:79:13
 enter-requires : tie.Need-enter-requires Inv-loop μ-loop
 enter-requires c κs =
     let l = c .before .before .before in
     let w = l .loop .inv .1 in
-    (w .laid, state-small (l .loop .buf) (l .loop .m) (l .loop .s .0) (l .loop .row) (w .laid) (w .leads))
+    (w .laid, state-small (view (l .loop .buf) (l .loop .l)) (l .loop .m) (l .loop .s .0) (l .loop .row) (w .laid) (w .leads))
 
 -- src/strings.rt:80:24
 enum-known-step : tie.Need-enum-known-step Inv-loop μ-loop
@@ -59,7 +60,7 @@ returns c =
     let e = c .before .before .before in
     let l = e .before .before .before .before in
     let a = l .before .before .args in
-    walk-full (standing (a .buf .now) (a .n) 0) (a .string .now) (l .loop .buf) (l .loop .m) (l .loop .s .0)
+    walk-full (standing (view (a .buf .now) (a .lo)) (a .n) 0) (a .string .now) (view (l .loop .buf) (l .loop .l)) (l .loop .m) (l .loop .s .0)
     (l .loop .row) (l .loop .i) (l .loop .inv .1) (omega arith) (rw (c .enum-told .given .1) at (e .enter .ensures))
 
 -- src/strings.rt:86:9
@@ -77,7 +78,7 @@ loop-again c =
     let l = e .before .before .before .before in
     let a = l .before .before .args in (
       e .enter .kept .0 ∙ l .loop .inv .0,
-      walk-on (standing (a .buf .now) (a .n) 0) (a .string .now) (l .loop .buf) (l .loop .m) (l .loop .s .0)
+      walk-on (standing (view (a .buf .now) (a .lo)) (a .n) 0) (a .string .now) (view (l .loop .buf) (l .loop .l)) (l .loop .m) (l .loop .s .0)
           (l .loop .row) (l .loop .i) (l .loop .inv .1) (omega arith) _ _ _ _
           (rw (c .before .step .given .1) at (e .enter .ensures)),
     )
@@ -91,7 +92,7 @@ returns-2 : tie.Need-returns-2 Inv-loop μ-loop
 returns-2 c =
     let l = c .before in
     let a = l .before .before .args in
-    walk-ends (standing (a .buf .now) (a .n) 0) (a .string .now) (l .loop .buf) (l .loop .m) (l .loop .s .0)
+    walk-ends (standing (view (a .buf .now) (a .lo)) (a .n) 0) (a .string .now) (view (l .loop .buf) (l .loop .l)) (l .loop .m) (l .loop .s .0)
     (l .loop .row) (l .loop .i) (l .loop .inv .1) (c .loop-test .left)
 
 pub walk-spec : {M : Type 1} → statement M
@@ -101,8 +102,8 @@ walk-spec =
     Inv-loop
     μ-loop
     loop-holds
-    mul-t12
-    shared-slice-read-t17
+    mul-t15
+    shared-slice-read-t20
     enter-requires
     enum-known-step
     enum-told

@@ -1,4 +1,5 @@
 use native.Mathlib.Omega.{arith}
+use Rattle.grow.specs.Held.{view}
 use Rattle.unite.proofs.Rowed.{adds-over, adds-row}
 use borrow.Author.Needs.{needs}
 use Rattle.unite.proofs.taking.added.Statement.{statement}
@@ -11,24 +12,24 @@ use Rattle.grow.proofs.add.Reads as add-reads
 returns : tie.Need-returns
 returns c mode =
     let s = c .before in
-    adds-over (s .args .buf .now) (s .args .n) (s .args .i) (s .args .from .0) (s .args .token .0) (s .args .code)
-    (s .pre) mode (c .if1 .taken)
+    adds-over (view (s .args .buf .now) (s .args .lo)) (s .args .n) (s .args .i) (s .args .from .0) (s .args .token .0) (s .args .code)
+    (s .pre .0) mode (c .if1 .taken)
 
 -- src/taking.rt:37:5
 add-requires : tie.Need-add-requires
 add-requires c κs = search needs
 
 -- src/taking.rt:39:15
-add-t11 : tie.Need-add-t11
-add-t11 c = search needs
-
--- src/taking.rt:40:23
 add-t12 : tie.Need-add-t12
 add-t12 c = search needs
 
+-- src/taking.rt:40:23
+add-t13 : tie.Need-add-t13
+add-t13 c = search needs
+
 -- src/taking.rt:40:22
-cast-t13 : tie.Need-cast-t13
-cast-t13 c = search needs
+cast-t14 : tie.Need-cast-t14
+cast-t14 c = search needs
 
 -- src/taking.rt:30:1
 same-length : tie.Need-same-length
@@ -38,9 +39,9 @@ same-length c = search needs
 returns-2 : tie.Need-returns-2
 returns-2 c mode =
     let s = c .before .before .before .before in
-    adds-row (s .args .buf .now) (s .args .n) (s .args .i) (s .args .from .0) (s .args .token .0) (s .args .code)
-    (s .pre) mode (omega arith) _ (c .before .add .ensures)
+    adds-row (view (s .args .buf .now) (s .args .lo)) (s .args .n) (s .args .i) (s .args .from .0) (s .args .token .0) (s .args .code)
+    (s .pre .0) mode (omega arith) _ (c .before .add .ensures)
 
 pub added-spec : {M : Type 1} → statement M
 added-spec =
-    tie.close (tie.spec returns add-requires add-t11 add-t12 cast-t13 same-length returns-2)
+    tie.close (tie.spec returns add-requires add-t12 add-t13 cast-t14 same-length returns-2)

@@ -1,128 +1,84 @@
 use mathlib.Core.Path.{sym, subst}
-use mathlib.Core.Option.{Option, none, some}
-use Prim.Native.Nat.{_<_, _*_}
-use native.Mathlib.Omega.{arith}
-use lib.ListN.{take}
+use mathlib.Core.Option.{Option}
 use Rattle.paper.specs.Rows.{Row}
 use Rattle.rows.specs.Places.{uncoded}
-use Rattle.rows.specs.Search.{Finds}
-use Rattle.rows.specs.declared.search.Found.the-variants.{At, Missing}
-use Rattle.grow.specs.Held.{held}
-use Rattle.grow.proofs.Written.{held-numbers}
-use Rattle.grow.proofs.Placed.{room}
+use Rattle.rows.specs.declared.search.Found.the-variants.{At}
+use Rattle.grow.specs.Held.{view, held, Missed, Seeks}
 use Rattle.unite.specs.Taking.{taking, Takes}
-use Rattle.unite.proofs.Rowed.{found-below}
 use borrow.Author.Needs.{needs}
 use Rattle.unite.proofs.taking.take_row.Statement.{statement}
 use Rattle.unite.proofs.taking.take_row.Tie as tie
 use Rattle.unite.proofs.taking.take_row.Reads as reads
 use Rattle.unite.proofs.taking.take_row.Lts as lts
-use Rattle.rows.proofs.search.find.Reads as find-reads
+use Rattle.grow.proofs.find.Reads as find-reads
 use Rattle.unite.proofs.taking.added.Reads as added-reads
 use Rattle.unite.proofs.taking.matched.Reads as matched-reads
 
--- src/taking.rt:77:43
-mul-find : tie.Need-mul-find
-mul-find c = search needs
-
--- src/taking.rt:77:36
-slice-reshare-prefix-find : tie.Need-slice-reshare-prefix-find
-slice-reshare-prefix-find c = search needs
-
--- src/taking.rt:77:36
-slice-aggregate-find : tie.Need-slice-aggregate-find
-slice-aggregate-find c =
-    let s = c .before in
-    sym (held-numbers (s .args .buf .now) (s .args .n) (room (s .args .buf .now) (s .args .n) (s .pre .0)))
-
--- src/taking.rt:77:51
-cast-find : tie.Need-cast-find
-cast-find c = search needs
-
--- src/taking.rt:77:68
-cast-find-2 : tie.Need-cast-find-2
-cast-find-2 c = search needs
-
--- src/taking.rt:77:9
+-- src/taking.rt:94:9
 find-requires : tie.Need-find-requires
 find-requires c κs = search needs
 
--- src/taking.rt:79:19
+-- src/taking.rt:96:19
 enum-known-found : tie.Need-enum-known-found
 enum-known-found c = search needs
 
 -- the row that the search found, or its place
-there : (c : tie.After-known-told) → let s = c .before .before .before .before .before .before .before in
-    Finds (take (s .args .n * 4) (s .args .buf .now)) (s .args .from .0) (s .args .token .0)
+there : (c : tie.After-known-told) → let s = c .before .before .before .before .before in
+    Seeks (view (s .args .buf .now) (s .args .lo)) (s .args .n) (s .args .from .0) (s .args .token .0)
     (At (c .before .found .given .0 .0))
 there c = rw (c .before .found .given .1) at (c .before .before .before .find .ensures)
 
-missed : (c : tie.After-known-told2) → let s = c .before .before .before .before .before .before .before in
-    Finds (take (s .args .n * 4) (s .args .buf .now)) (s .args .from .0) (s .args .token .0)
-    (Missing (c .before .found2 .given .0 .0))
+missed : (c : tie.After-known-told2) → let s = c .before .before .before .before .before in
+    Missed (view (s .args .buf .now) (s .args .lo)) (s .args .n) (c .before .found2 .given .0 .0) (s .args .from .0)
+    (s .args .token .0)
 missed c = rw (c .before .found2 .given .1) at (c .before .before .before .find .ensures)
 
--- src/taking.rt:79:25
+-- src/taking.rt:96:25
 matched-requires : tie.Need-matched-requires
 matched-requires c κs =
-    let s = c .before .before .before .before .before .before .before .before in
-    record {
-      laid = s .pre .0;
-      tree = s .pre .1;
-      there = found-below (s .args .buf .now) (s .args .n) _ (s .pre .0) (there (c .before) .0);
-      production = s .pre .3;
-    }
+    let s = c .before .before .before .before .before .before in
+    record { laid = s .pre .0; tree = s .pre .1; there = there (c .before) .0; production = s .pre .3 }
 
--- src/taking.rt:80:24
+-- src/taking.rt:97:24
 enum-known-found-2 : tie.Need-enum-known-found-2
 enum-known-found-2 c = search needs
 
--- src/taking.rt:80:30
+-- src/taking.rt:97:30
 added-requires : tie.Need-added-requires
-added-requires c κs =
-    let s = c .before .before .before .before .before .before .before .before in
-    let f = missed (c .before) in
-    record { laid = s .pre .0; from = s .pre .2; production = s .pre .3; new = f .0; place = f .1 }
+added-requires c κs = (missed (c .before), c .before .before .before .before .before .before .pre .3)
 
--- src/taking.rt:65:1
+-- src/taking.rt:79:1
 same-length : tie.Need-same-length
 same-length c = search needs
 
--- src/taking.rt:65:1
+-- src/taking.rt:79:1
 returns : tie.Need-returns
 returns c =
     let k = c .before .before .before in
-    let s = k .before .before .before .before .before .before .before in
-    let a = s .args in
+    let a = k .before .before .before .before .before .args in
     subst (λ (o : Option Row). Takes (c .before .matched .last .1 .0)
-    (taking (a .mode) (held (a .buf .now) (a .n)) (a .from .0) (a .token .0) (uncoded (a .code)) o)
+    (taking (a .mode) (held (view (a .buf .now) (a .lo)) (a .n)) (a .from .0) (a .token .0) (uncoded (a .code)) o)
     (c .before .matched .result))
     (sym (there k .1)) (c .before .matched .ensures (a .from .0) (a .token .0))
 
--- src/taking.rt:65:1
+-- src/taking.rt:79:1
 same-length-2 : tie.Need-same-length-2
 same-length-2 c = search needs
 
--- src/taking.rt:65:1
+-- src/taking.rt:79:1
 returns-2 : tie.Need-returns-2
 returns-2 c =
     let k = c .before .before .before in
-    let s = k .before .before .before .before .before .before .before in
-    let a = s .args in
+    let a = k .before .before .before .before .before .args in
     subst (λ (o : Option Row). Takes (c .before .added .last .0)
-    (taking (a .mode) (held (a .buf .now) (a .n)) (a .from .0) (a .token .0) (uncoded (a .code)) o)
+    (taking (a .mode) (held (view (a .buf .now) (a .lo)) (a .n)) (a .from .0) (a .token .0) (uncoded (a .code)) o)
     (c .before .added .result))
-    (sym (missed k .0)) (c .before .added .ensures (a .mode))
+    (sym (missed k .new)) (c .before .added .ensures (a .mode))
 
 pub take-row-spec : {M : Type 1} → statement M
 take-row-spec =
     tie.close
     (tie.spec
-    mul-find
-    slice-reshare-prefix-find
-    slice-aggregate-find
-    cast-find
-    cast-find-2
     find-requires
     enum-known-found
     matched-requires

@@ -9,10 +9,11 @@ use Rattle.paper.specs.Build.{Standing}
 use Rattle.paper.specs.Unite.{matched}
 use Rattle.rows.specs.Places.{row-at, uncoded}
 use Rattle.rows.proofs.Fits.{Fit}
-use Rattle.grow.specs.Held.{held}
+use Rattle.grow.specs.Held.{view, held}
+use Rattle.grow.proofs.Viewed.{uncoded-code}
 use Rattle.unite.specs.Taking.{Takes}
 use Rattle.unite.specs.declared.taking.Took.{Took}
-use Rattle.unite.proofs.Rowed.{uncoded-code, took-as}
+use Rattle.unite.proofs.Rowed.{took-as}
 use Rattle.unite.proofs.Steps.{one-row, as-one-row}
 use Rattle.unite.proofs.Ongoing.{Ongoing, begins, ends, row-fit, from-is, clashes, overflows, goes-on}
 use Rattle.unite.proofs.taking.take_rows.Statement.{statement}
@@ -26,18 +27,18 @@ use Rattle.rows.proofs.numbers.to_at.Reads as to-at-reads
 use Rattle.unite.proofs.taking.take_row.Reads as take-row-reads
 
 abbrev Inv-loop : tie.InvT-loop
-Inv-loop mode buf₀ count b map₀ n₀ i₀ buf map n i =
-    (length buf ≡ length buf₀) × Ongoing mode (held buf₀ count) b buf map n i
+Inv-loop mode buf₀ lo count b map₀ l₀ n₀ i₀ buf map l n i =
+    (length buf ≡ length buf₀) × Ongoing mode (held (view buf₀ lo) count) b (view buf l) map n i
 
 abbrev μ-loop : tie.MeasureT-loop
-μ-loop mode buf₀ count b map₀ n₀ i₀ buf map n i = length b / 4 - i
+μ-loop mode buf₀ lo count b map₀ l₀ n₀ i₀ buf map l n i = length b / 4 - i
 
 -- src/taking.rt:97:5
 loop-holds : tie.Need-loop-holds Inv-loop μ-loop
 loop-holds c =
     let a = c .args in (
       refl,
-      begins (a .mode) (a .b .now) (a .buf .now) (a .map .now) (a .count) (c .pre .0) (c .pre .1) (c .pre .2)
+      begins (a .mode) (a .b .now) (view (a .buf .now) (a .lo)) (a .map .now) (a .count) (c .pre .0) (c .pre .1) (c .pre .2)
           (c .pre .3),
     )
 
@@ -46,7 +47,7 @@ fitting : (c : tie.In-loop Inv-loop μ-loop) → let l = c .before in Fit (row-a
 fitting c =
     let l = c .before in
     let a = l .before .args in
-    row-fit (a .mode) (held (a .buf .now) (a .count)) (a .b .now) (l .loop .buf) (l .loop .map) (l .loop .n)
+    row-fit (a .mode) (held (view (a .buf .now) (a .lo)) (a .count)) (a .b .now) (view (l .loop .buf) (l .loop .l)) (l .loop .map) (l .loop .n)
     (l .loop .i)
     (l .loop .inv .1) (l .before .pre .2) (omega arith)
 
@@ -59,7 +60,7 @@ from-row c =
     let l = c .before .before in
     let a = l .before .args in
     ap (λ (z : ℕ). getD (l .loop .map) z 0) (c .from-at .ensures .is)
-    ∙ from-is (a .mode) (held (a .buf .now) (a .count)) (a .b .now) (l .loop .buf) (l .loop .map) (l .loop .n)
+    ∙ from-is (a .mode) (held (view (a .buf .now) (a .lo)) (a .count)) (a .b .now) (view (l .loop .buf) (l .loop .l)) (l .loop .map) (l .loop .n)
     (l .loop .i)
     (l .loop .inv .1) (l .before .pre .2) (omega arith)
 
@@ -71,7 +72,7 @@ loop-of c = in-loop c .before
 
 came : (c : tie.After-take-row Inv-loop μ-loop) (x : Took) → c .take-row .result ≡ x → let l = loop-of c in
     Takes (c .take-row .last .1 .0)
-    (one-row (l .before .args .mode) (held (l .loop .buf) (l .loop .n)) (l .loop .inv .1 .matches)
+    (one-row (l .before .args .mode) (held (view (l .loop .buf) (l .loop .l)) (l .loop .n)) (l .loop .inv .1 .matches)
     (row-at (l .before .args .b .now) (l .loop .i)))
     x
 came c x e =
@@ -82,7 +83,7 @@ came c x e =
     let a = l .before .args in
     let r = row-at (a .b .now) (l .loop .i) in
     took-as (c .take-row .last .1 .0)
-    (as-one-row (a .mode) (held (l .loop .buf) (l .loop .n)) (l .loop .inv .1 .matches) r _ _ _ (from-row f)
+    (as-one-row (a .mode) (held (view (l .loop .buf) (l .loop .l)) (l .loop .n)) (l .loop .inv .1 .matches) r _ _ _ (from-row f)
     (t .terminal-at .ensures .is) (ap uncoded (d .code-at .ensures .is) ∙ uncoded-code (r .production)))
     e (c .take-row .ensures)
 
@@ -91,20 +92,20 @@ from-at-requires : tie.Need-from-at-requires Inv-loop μ-loop
 from-at-requires c κs = omega arith
 
 -- src/taking.rt:98:26
-mul-t16 : tie.Need-mul-t16 Inv-loop μ-loop
-mul-t16 c = omega (arith, c .from-at .ensures .is, fitting (c .before) .from)
+mul-t19 : tie.Need-mul-t19 Inv-loop μ-loop
+mul-t19 c = omega (arith, c .from-at .ensures .is, fitting (c .before) .from)
 
 -- src/taking.rt:98:26
-element-copy-out-t20 : tie.Need-element-copy-out-t20 Inv-loop μ-loop
-element-copy-out-t20 c = omega (arith, c .from-at .ensures .is, fitting (c .before) .from)
+element-copy-out-t23 : tie.Need-element-copy-out-t23 Inv-loop μ-loop
+element-copy-out-t23 c = omega (arith, c .from-at .ensures .is, fitting (c .before) .from)
 
 -- src/taking.rt:99:30
 terminal-at-requires : tie.Need-terminal-at-requires Inv-loop μ-loop
 terminal-at-requires c κs = omega arith
 
 -- src/taking.rt:99:30
-cast-t20 : tie.Need-cast-t20 Inv-loop μ-loop
-cast-t20 c = omega (arith, c .terminal-at .ensures .is, fitting (c .before .before .before) .terminal)
+cast-t23 : tie.Need-cast-t23 Inv-loop μ-loop
+cast-t23 c = omega (arith, c .terminal-at .ensures .is, fitting (c .before .before .before) .terminal)
 
 -- src/taking.rt:100:56
 code-at-requires : tie.Need-code-at-requires Inv-loop μ-loop
@@ -137,7 +138,7 @@ returns c =
     let t = c .before .before .before .before in
     let l = loop-of t in
     let a = l .before .args in
-    clashes (a .mode) (held (a .buf .now) (a .count)) (a .b .now) (l .loop .buf) (l .loop .map) (l .loop .n)
+    clashes (a .mode) (held (view (a .buf .now) (a .lo)) (a .count)) (a .b .now) (view (l .loop .buf) (l .loop .l)) (l .loop .map) (l .loop .n)
     (l .loop .i)
     (l .loop .inv .1) (l .before .pre .2) (omega arith) _ _ (came t _ (c .before .took .given .1))
 
@@ -157,7 +158,7 @@ returns-2 c =
     let t = c .before .before .before in
     let l = loop-of t in
     let a = l .before .args in
-    overflows (a .mode) (held (a .buf .now) (a .count)) (a .b .now) (l .loop .buf) (l .loop .map) (l .loop .n)
+    overflows (a .mode) (held (view (a .buf .now) (a .lo)) (a .count)) (a .b .now) (view (l .loop .buf) (l .loop .l)) (l .loop .map) (l .loop .n)
     (l .loop .i)
     (l .loop .inv .1) (l .before .pre .2) (omega arith) (came t _ (c .enum-told .given .1))
 
@@ -197,7 +198,7 @@ loop-again c =
     let a = l .before .args in (
       t .take-row .kept .1 .0 ∙ l .loop .inv .0,
       rw (c .to-at .ensures .is)
-          (goes-on (a .mode) (held (a .buf .now) (a .count)) (a .b .now) (l .loop .buf) (l .loop .map) (l .loop .n)
+          (goes-on (a .mode) (held (view (a .buf .now) (a .lo)) (a .count)) (a .b .now) (view (l .loop .buf) (l .loop .l)) (l .loop .map) (l .loop .n)
           (l .loop .i)
           (l .loop .inv .1) (l .before .pre .2) (omega arith) _ _ _ (came t _ (c .before .before .took2 .given .1))),
     )
@@ -211,7 +212,7 @@ returns-3 : tie.Need-returns-3 Inv-loop μ-loop
 returns-3 c =
     let l = c .before in
     let a = l .before .args in
-    ends (a .mode) (held (a .buf .now) (a .count)) (a .b .now) (l .loop .buf) (l .loop .map) (l .loop .n) (l .loop .i)
+    ends (a .mode) (held (view (a .buf .now) (a .lo)) (a .count)) (a .b .now) (view (l .loop .buf) (l .loop .l)) (l .loop .map) (l .loop .n) (l .loop .i)
     (l .loop .inv .1) (c .loop-test .left)
 
 pub take-rows-spec : {M : Type 1} → statement M
@@ -222,10 +223,10 @@ take-rows-spec =
     μ-loop
     loop-holds
     from-at-requires
-    mul-t16
-    element-copy-out-t20
+    mul-t19
+    element-copy-out-t23
     terminal-at-requires
-    cast-t20
+    cast-t23
     code-at-requires
     take-row-requires
     enum-known-took

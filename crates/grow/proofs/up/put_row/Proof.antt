@@ -4,10 +4,10 @@ use lib.ListN.{length-set}
 use Rattle.rows.proofs.Signed.{same}
 use Rattle.grow.proofs.Shifted.{stored, over-same}
 use borrow.Author.Needs.{needs}
-use Rattle.grow.proofs.put_row.Statement.{statement}
-use Rattle.grow.proofs.put_row.Tie as tie
-use Rattle.grow.proofs.put_row.Reads as reads
-use Rattle.grow.proofs.put_row.Lts as lts
+use Rattle.grow.proofs.up.put_row.Statement.{statement}
+use Rattle.grow.proofs.up.put_row.Tie as tie
+use Rattle.grow.proofs.up.put_row.Reads as reads
+use Rattle.grow.proofs.up.put_row.Lts as lts
 
 -- src/lib.rt:20:9
 mul-w : tie.Need-mul-w

@@ -7,12 +7,12 @@ use lib.IntN.{ℤ}
 use borrow.Author.Needs.{needs}
 use Rattle.grow.specs.Moves.{up-row, up-four, opened}
 use Rattle.grow.proofs.Shifted.{open-none, open-step, open-four}
-use Rattle.grow.proofs.open_rows.Statement.{statement}
-use Rattle.grow.proofs.open_rows.Tie as tie
-use Rattle.grow.proofs.open_rows.Reads as reads
-use Rattle.grow.proofs.open_rows.Lts as lts
-use Rattle.grow.proofs.move_four.Reads as move-four-reads
-use Rattle.grow.proofs.move_row.Reads as move-row-reads
+use Rattle.grow.proofs.up.open_rows.Statement.{statement}
+use Rattle.grow.proofs.up.open_rows.Tie as tie
+use Rattle.grow.proofs.up.open_rows.Reads as reads
+use Rattle.grow.proofs.up.open_rows.Lts as lts
+use Rattle.grow.proofs.up.move_four.Reads as move-four-reads
+use Rattle.grow.proofs.up.move_row.Reads as move-row-reads
 
 abbrev Inv-loop : tie.InvT-loop
 Inv-loop buf₀ n p i₀ buf i = (p ≤ i) × (i ≤ n) × (length buf ≡ length buf₀) × (buf ≡ opened buf₀ n i)

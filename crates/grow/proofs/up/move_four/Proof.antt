@@ -4,11 +4,11 @@ use Prim.Native.Nat.{_+_}
 use lib.IntN.{ℤ}
 use Rattle.grow.specs.Moves.{up-row}
 use borrow.Author.Needs.{needs}
-use Rattle.grow.proofs.move_four.Statement.{statement}
-use Rattle.grow.proofs.move_four.Tie as tie
-use Rattle.grow.proofs.move_four.Reads as reads
-use Rattle.grow.proofs.move_four.Lts as lts
-use Rattle.grow.proofs.move_row.Reads as move-row-reads
+use Rattle.grow.proofs.up.move_four.Statement.{statement}
+use Rattle.grow.proofs.up.move_four.Tie as tie
+use Rattle.grow.proofs.up.move_four.Reads as reads
+use Rattle.grow.proofs.up.move_four.Lts as lts
+use Rattle.grow.proofs.up.move_row.Reads as move-row-reads
 
 -- src/lib.rt:42:19
 add-move-row : tie.Need-add-move-row

@@ -5,12 +5,12 @@ use Rattle.rows.proofs.Signed.{same}
 use Rattle.grow.specs.Moves.{over-row, opened}
 use Rattle.grow.proofs.Shifted.{over-same, fill}
 use borrow.Author.Needs.{needs}
-use Rattle.grow.proofs.insert_row.Statement.{statement}
-use Rattle.grow.proofs.insert_row.Tie as tie
-use Rattle.grow.proofs.insert_row.Reads as reads
-use Rattle.grow.proofs.insert_row.Lts as lts
-use Rattle.grow.proofs.open_rows.Reads as open-rows-reads
-use Rattle.grow.proofs.put_row.Reads as put-row-reads
+use Rattle.grow.proofs.up.insert_row.Statement.{statement}
+use Rattle.grow.proofs.up.insert_row.Tie as tie
+use Rattle.grow.proofs.up.insert_row.Reads as reads
+use Rattle.grow.proofs.up.insert_row.Lts as lts
+use Rattle.grow.proofs.up.open_rows.Reads as open-rows-reads
+use Rattle.grow.proofs.up.put_row.Reads as put-row-reads
 
 -- src/lib.rt:55:5
 open-rows-requires : tie.Need-open-rows-requires

@@ -1,0 +1,85 @@
+use mathlib.Core.Path.{subst}
+use mathlib.Core.List.{List}
+use Prim.Native.Nat.{_*_}
+use lib.IntN.{ℤ}
+use Rattle.rows.specs.Search.{Finds}
+use Rattle.grow.specs.Held.{view}
+use native.Mathlib.Omega.{arith}
+use Rattle.grow.proofs.Viewed.{reach, rows-part, seeks}
+use borrow.Author.Needs.{needs}
+use Rattle.grow.proofs.find.Statement.{statement}
+use Rattle.grow.proofs.find.Tie as tie
+use Rattle.grow.proofs.find.Reads as reads
+use Rattle.grow.proofs.find.Lts as lts
+use Rattle.rows.proofs.search.find.Reads as find-reads
+
+-- src/lib.rt:24:17
+mul-first : tie.Need-mul-first
+mul-first c = let h = reach (c .args .buf .now) (c .args .lo) (c .args .n) (c .pre .0) in search needs
+
+-- src/lib.rt:25:38
+mul-find : tie.Need-mul-find
+mul-find c = search needs
+
+-- src/lib.rt:25:30
+add-find : tie.Need-add-find
+add-find c = let h = reach (c .args .buf .now) (c .args .lo) (c .args .n) (c .pre .0) in search needs
+
+-- src/lib.rt:25:18
+mul-find-2 : tie.Need-mul-find-2
+mul-find-2 c = let h = reach (c .args .buf .now) (c .args .lo) (c .args .n) (c .pre .0) in search needs
+
+-- src/lib.rt:25:18
+sub-find : tie.Need-sub-find
+sub-find c = search needs
+
+-- src/lib.rt:25:18
+part-find-start : tie.Need-part-find-start
+part-find-start c = search needs
+
+-- src/lib.rt:25:18
+part-find-end : tie.Need-part-find-end
+part-find-end c = reach (c .args .buf .now) (c .args .lo) (c .args .n) (c .pre .0)
+
+-- src/lib.rt:25:46
+cast-find : tie.Need-cast-find
+cast-find c = search needs
+
+-- src/lib.rt:25:60
+cast-find-2 : tie.Need-cast-find-2
+cast-find-2 c = search needs
+
+-- src/lib.rt:25:5
+find-requires : tie.Need-find-requires
+find-requires c κs =
+    let s = c .before .before .before in
+    let a = s .args in (
+      rw (rows-part (a .buf .now) (a .lo * 4) (a .n * 4)) (s .pre .0 .passed),
+      omega (arith, s .pre .1),
+      omega arith,
+    )
+
+-- src/lib.rt:20:1
+returns : tie.Need-returns
+returns c =
+    let s = c .before .before .before .before in
+    let a = s .args in
+    seeks (view (a .buf .now) (a .lo)) (a .n) (a .s .0) (a .t .0) (c .find .result) (s .pre .0) (s .pre .1)
+    (subst (λ (ns : List ℤ). Finds ns (a .s .0) (a .t .0) (c .find .result))
+    (rows-part (a .buf .now) (a .lo * 4) (a .n * 4)) (c .find .ensures))
+
+pub find-spec : {M : Type 1} → statement M
+find-spec =
+    tie.close
+    (tie.spec
+    mul-first
+    mul-find
+    add-find
+    mul-find-2
+    sub-find
+    part-find-start
+    part-find-end
+    cast-find
+    cast-find-2
+    find-requires
+    returns)
