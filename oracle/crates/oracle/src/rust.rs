@@ -62,15 +62,18 @@ pub enum Predicted {
     None,
 }
 
-/// A table as the generated parsers hold it. Its rows are never given back, so make one a table.
-pub struct Walker(pub parol_runtime::LookaheadDFA);
+/// A table as the generated parsers hold it. Its rows are given back with it, so do not copy it out.
+pub struct Walker(pub parol_runtime::LookaheadDFA, *mut [Trans]);
 
 impl Walker {
     /// The rows become `&'static [Trans]`.
     pub fn new(table: Lent) -> Self {
         let rows: Vec<Trans> = table.rows.chunks_exact(4).map(trans).collect();
-        let rows: &'static [Trans] = Vec::leak(rows);
-        Walker(parol_runtime::LookaheadDFA::new(table.prod0, rows, table.k))
+        let held = Box::into_raw(rows.into_boxed_slice());
+        // SAFETY: the rows live as long as the walker does.
+        let rows: &'static [Trans] = unsafe { &*held };
+        let dfa = parol_runtime::LookaheadDFA::new(table.prod0, rows, table.k);
+        Walker(dfa, held)
     }
 
     /// `eval`; the rows entered are only traced, as "from, terminal => to".
@@ -97,6 +100,13 @@ impl Walker {
         let matched = seen.len() - message.ends_with('.') as usize;
         let terminals = expected.names().iter().map(|n| n.parse().unwrap());
         (matched, terminals.collect())
+    }
+}
+
+impl Drop for Walker {
+    fn drop(&mut self) {
+        // SAFETY: `new` made them, and only the table that goes now has them.
+        drop(unsafe { Box::from_raw(self.1) });
     }
 }
 
