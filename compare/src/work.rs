@@ -13,7 +13,7 @@ use std::time::{Duration, Instant};
 const PARTS: usize = 4;
 
 /// Rounds of a long run: some 20 minutes on two cores.
-pub const LONG: usize = 20;
+pub const LONG: usize = 80;
 
 /// What a family came to.
 #[derive(Default, Clone, Copy)]
