@@ -8,6 +8,8 @@ use cases::tally::Outcome;
 use paper::Reading;
 use paper::Refusal;
 use paper::Writing;
+ghost use mathlib.Core.Path.{_≡_};
+ghost use lib.ListN.{length};
 
 // 13, then 1 for over 4,096 rows, 2, 3.
 fn number(plain: Plain, numbers: &[i32]) -> usize {
@@ -80,6 +82,13 @@ fn is_refused(plain: Plain, numbers: &[i32], refusal: Refusal, out: &[i32]) -> b
     }
 }
 
+// Room for text out. The contract gives only the length, which lending it asks.
+pub fn room() -> [u8; 262144]
+    ensures { λ r. ⌜ 262144 ≡ length r ⌝ }
+{
+    [0u8; 262144]
+}
+
 // How many bytes text out wrote; 0 if it refused.
 pub fn written(writing: Writing) -> usize {
     match writing {
@@ -90,7 +99,7 @@ pub fn written(writing: Writing) -> usize {
 
 // Whether text out writes a table as this text, and nothing behind it.
 fn is_written(prod0: i32, k: usize, rows: &[i32], text: &[u8]) -> bool {
-    let mut bytes = [0u8; 262144];
+    let mut bytes = room();
     let n = written(text::text_out(prod0, k, rows, &mut bytes));
     check::same(text, slice::front_bytes(&bytes, n)) && is_blank(&bytes, n)
 }

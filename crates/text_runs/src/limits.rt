@@ -35,7 +35,7 @@ fn after(rows: &[i32]) {
 
 // The text of a table with more behind it.
 fn longer(name: &[u8], rows: &[i32], more: &[u8]) {
-    let mut bytes = [0u8; 262144];
+    let mut bytes = compare::room();
     let n = compare::written(text::text_out(-1, 2, rows, &mut bytes));
     let end = lay(&mut bytes, n, more);
     let mut numbers = [0i32; 16390];

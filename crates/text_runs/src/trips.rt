@@ -29,7 +29,7 @@ fn trip(prod0: i32, k: usize, rows: &[i32], bytes: &mut [u8], out: &mut [i32]) -
 fn drawn(seed: usize, many: usize, out: &mut [i32], counts: &mut [usize]) -> usize {
     let mut rows = [0i32; 16384];
     let x = draw::rows(seed, many, &mut rows);
-    let mut bytes = [0u8; 262144];
+    let mut bytes = compare::room();
     let part = slice::front_numbers(&rows, answer::numbers_of(many));
     let outcome = trip(draw::production(x), x % 17, part, &mut bytes, out);
     tally::count(counts, outcome);
