@@ -1,3 +1,4 @@
+-- `measured_windows` is safe and ends: the answers left fall. Assumes nothing.
 use native.Mathlib.Omega.{arith}
 use lib.Seq.{length-take-le}
 use Rattle.paper.specs.Rows.{table}
@@ -10,13 +11,10 @@ use Rattle.measured.proofs.measured_windows.Statement.{statement}
 use Rattle.measured.proofs.measured_windows.Tie as tie
 
 abbrev Inv-loop : tie.InvT-loop
-Inv-loop mode prod0 k rows tokens answers₀ mode' rest₀ i₀ answers rest i = length answers ≡ length answers₀
+Inv-loop prod0 k rows tokens answers₀ rest₀ i₀ answers rest i = length answers ≡ length answers₀
 
 abbrev μ-loop : tie.MeasureT-loop
-μ-loop mode prod0 k rows tokens answers₀ mode' rest₀ i₀ answers rest i = length answers₀ - i
-
-mode-of-requires : tie.Need-mode-of-requires Inv-loop μ-loop
-mode-of-requires c κs = search needs
+μ-loop prod0 k rows tokens answers₀ rest₀ i₀ answers rest i = length answers₀ - i
 
 loop-holds : tie.Need-loop-holds Inv-loop μ-loop
 loop-holds c = search needs
@@ -29,7 +27,7 @@ returns c = search needs
 
 slice-aggregate-window : tie.Need-slice-aggregate-window Inv-loop μ-loop
 slice-aggregate-window c = sym (length-take-le
-    (c .before .before .before .before .before .before .before .args .k)
+    (c .before .before .before .before .before .before .args .k)
     (c .before .before .before .loop .rest .now) (omega arith))
 
 window-requires : tie.Need-window-requires Inv-loop μ-loop
@@ -43,7 +41,7 @@ slice-write-answers c = search needs
 
 mul-rest : tie.Need-mul-rest Inv-loop μ-loop
 mul-rest c =
-    let s = c .before .before .before .before .before .before .before .before in
+    let s = c .before .before .before .before .before .before .before in
     let b = plain-bounded (table (s .args .prod0) (s .args .k) (s .args .rows .now)) (s .pre .checked) in
     omega (arith, b .k)
 
@@ -77,7 +75,6 @@ measured-windows-spec =
     (tie.spec
     Inv-loop
     μ-loop
-    mode-of-requires
     loop-holds
     same-length
     returns
