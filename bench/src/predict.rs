@@ -38,6 +38,81 @@ fn window(dice: &mut Dice, t: &Table) -> Vec<u16> {
     tokens
 }
 
+/// How many tables of one size, and windows of each: one table alone could favour either side.
+const TABLES: usize = 8;
+const WINDOWS: usize = 64;
+
+/// A table with its windows, each alone and all in a row.
+struct Set {
+    table: Table,
+    windows: Vec<Vec<u16>>,
+    all: Vec<u16>,
+}
+
+impl Set {
+    fn new(dice: &mut Dice, rows: usize, k: usize) -> Set {
+        let table = table(dice, rows, k);
+        let windows: Vec<_> = (0..WINDOWS).map(|_| window(dice, &table)).collect();
+        let all = windows.iter().flatten().copied().collect();
+        let set = Set {
+            table,
+            windows,
+            all,
+        };
+        let (number, _) = ours::predict(0, set.lent(), k, &set.windows[0]);
+        assert!(!matches!(number, 1..=3));
+        set
+    }
+
+    fn lent(&self) -> Lent<'_> {
+        Lent {
+            prod0: self.table.prod0,
+            k: self.table.k,
+            rows: &self.table.rows,
+        }
+    }
+}
+
+/// Nanoseconds of the Rust's `eval` for a window, its streams made beforehand.
+fn evals(sets: &[Set]) -> f64 {
+    let mut asked: Vec<_> = sets
+        .iter()
+        .map(|s| {
+            let streams = s.windows.iter().map(|w| TokenStream::lent(w, s.table.k));
+            (Walker::new(s.lent()), streams.collect::<Vec<_>>())
+        })
+        .collect();
+    clock::each(TABLES * WINDOWS, || {
+        for (walker, streams) in &mut asked {
+            for stream in streams {
+                let _ = black_box(walker.0.eval(stream, 0));
+            }
+        }
+    })
+}
+
+/// The walk over all windows of a table in one call.
+fn walks(sets: &[Set]) -> f64 {
+    let mut answers = [0; WINDOWS];
+    clock::each(TABLES * WINDOWS, || {
+        for s in sets {
+            // SAFETY: the table passed, as asserted when it was made.
+            unsafe { ours::windows(s.lent(), &s.all, &mut answers) };
+        }
+    })
+}
+
+/// A call for each window.
+fn calls(sets: &[Set], call: impl Fn(Lent, usize, &[u16]) -> ours::Answer) -> f64 {
+    clock::each(TABLES * WINDOWS, || {
+        for s in sets {
+            for w in &s.windows {
+                black_box(call(s.lent(), s.table.k, w));
+            }
+        }
+    })
+}
+
 pub fn run() {
     println!("\n## predict, nanoseconds a call\n");
     println!(
@@ -45,59 +120,18 @@ pub fn run() {
     );
     println!("|---|---|---|---|---|---|---|---|");
     let mut dice = Dice::new(7);
-    for (rows, k) in [
-        (2, 1),
-        (5, 1),
-        (10, 1),
-        (10, 2),
-        (20, 2),
-        (30, 3),
-        (100, 1),
-        (100, 4),
-        (100, 16),
-        (500, 4),
-        (500, 16),
-        (1000, 1),
-        (1000, 4),
-        (1000, 16),
-    ] {
-        let t = table(&mut dice, rows, k);
-        let lent = Lent {
-            prod0: t.prod0,
-            k: t.k,
-            rows: &t.rows,
-        };
-        let windows: Vec<Vec<u16>> = (0..64).map(|_| window(&mut dice, &t)).collect();
-        assert!(!matches!(
-            ours::predict(0, lent, k, &windows[0]).0,
-            1 | 2 | 3
-        ));
-        let walker = Walker::new(lent);
-        let mut streams: Vec<_> = windows.iter().map(|w| TokenStream::lent(w, k)).collect();
-        let rust = clock::each(64, || {
-            for s in &mut streams {
-                let _ = black_box(walker.0.eval(s, 0));
-            }
-        });
-        let all: Vec<u16> = windows.iter().flatten().copied().collect();
-        let mut answers = [0; 64];
-        // SAFETY: the table passed, as asserted above.
-        let walk = clock::each(64, || unsafe { ours::windows(lent, &all, &mut answers) });
-        let single = clock::each(64, || {
-            for w in &windows {
-                black_box(unsafe { ours::predict_checked(0, lent, k, w) });
-            }
-        });
-        let public = clock::each(64, || {
-            for w in &windows {
-                black_box(ours::predict(0, lent, k, w));
-            }
-        });
-        clock::line(
-            &format!("{rows} rows, k {k}"),
-            rust,
-            &[walk, single, public],
-        );
+    let small = [(2, 1), (5, 1), (10, 1), (10, 2), (20, 2), (30, 3)];
+    let large = [100, 500, 1000].map(|rows| [(rows, 1), (rows, 4), (rows, 16)]);
+    for (rows, k) in small.into_iter().chain(large.into_iter().flatten()) {
+        let sets: Vec<_> = (0..TABLES).map(|_| Set::new(&mut dice, rows, k)).collect();
+        // SAFETY: the tables passed, as asserted when they were made.
+        let checked = |t: Lent, k, w: &[u16]| unsafe { ours::predict_checked(0, t, k, w) };
+        let ours = [
+            walks(&sets),
+            calls(&sets, checked),
+            calls(&sets, |t, k, w| ours::predict(0, t, k, w)),
+        ];
+        clock::line(&format!("{rows} rows, k {k}"), evals(&sets), &ours);
     }
 }
 
