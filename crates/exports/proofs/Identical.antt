@@ -14,18 +14,18 @@ hands-one g f r s a b x y = (x .says ∙ sym (y .says), x .holds ∙ sym (y .hol
 
 -- build, unite, shrink, intake
 pub table-one : (g : Ruling Made) (old new now : List ℤ) (r s : ℕ) (a b : List ℕ) →
-    Handed-table g old new r a → Handed-table g old now s b → (new ≡ now) × (r ≡ s) × (a ≡ b)
+    Handed-table g old new r a → Handed-table g old now s b → (new ≡ now) × ((r ≡ s) × (a ≡ b))
 table-one g old new now r s a b x y =
     (x .holds ∙ sym (y .holds), hands-one g _ r s a b (x .hands) (y .hands))
 
 -- text in
 pub read-one : (g : Ruling Table) (old new now : List ℤ) (r s : ℕ) (a b : List ℕ) →
-    Handed-read g old new r a → Handed-read g old now s b → (new ≡ now) × (r ≡ s) × (a ≡ b)
+    Handed-read g old new r a → Handed-read g old now s b → (new ≡ now) × ((r ≡ s) × (a ≡ b))
 read-one g old new now r s a b x y =
     (x .holds ∙ sym (y .holds), hands-one g _ r s a b (x .hands) (y .hands))
 
 -- text out
 pub text-one : (g : Ruling (List ℕ)) (old new now : List ℕ) (r s : ℕ) (a b : List ℕ) →
-    Handed-text g old new r a → Handed-text g old now s b → (new ≡ now) × (r ≡ s) × (a ≡ b)
+    Handed-text g old new r a → Handed-text g old now s b → (new ≡ now) × ((r ≡ s) × (a ≡ b))
 text-one g old new now r s a b x y =
     (x .holds ∙ sym (y .holds), hands-one g _ r s a b (x .hands) (y .hands))
