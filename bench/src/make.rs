@@ -56,12 +56,25 @@ fn long_list(states: usize) -> Strings {
     list
 }
 
-fn single_list(states: usize, falling: bool) -> Strings {
+fn single_list(states: usize, token: fn(u16) -> u16) -> Strings {
     let mut list = Strings::default();
     for i in 1..states.min(1024) as u16 {
-        list.push(&[if falling { 2000 - i } else { i }]);
+        list.push(&[token(i)]);
     }
     list
+}
+
+fn rise(i: u16) -> u16 {
+    i
+}
+
+fn fall(i: u16) -> u16 {
+    2000 - i
+}
+
+/// By turns from the low end and from the high end: every row goes into the middle of those before it.
+fn close_in(i: u16) -> u16 {
+    if i % 2 == 0 { i } else { 4000 - i }
 }
 
 pub fn build() {
@@ -74,8 +87,9 @@ pub fn build() {
         let shapes = [
             ("random strings", random_list(&mut dice, states)),
             ("strings of 16", long_list(states)),
-            ("single tokens that rise", single_list(states, false)),
-            ("single tokens that fall", single_list(states, true)),
+            ("single tokens that rise", single_list(states, rise)),
+            ("single tokens that fall", single_list(states, fall)),
+            ("single tokens that close in", single_list(states, close_in)),
         ];
         for (name, list) in shapes {
             let tuples = KTuples::of(&strings(&list));
@@ -113,11 +127,15 @@ pub fn unite() {
             1,
         ));
         let falls = flat(&LookaheadDFA::from_k_tuples(
-            &KTuples::of(&strings(&single_list(half, true))),
+            &KTuples::of(&strings(&single_list(half, fall))),
             1,
         ));
         let mut low = falls.clone();
         low.rows.chunks_exact_mut(4).for_each(|r| r[1] -= 950);
+        let ends = flat(&LookaheadDFA::from_k_tuples(
+            &KTuples::of(&strings(&single_list(half, close_in))),
+            1,
+        ));
         for (name, x, y) in [
             ("no state in common", &a, &b),
             ("a tree with itself", &a, &a),
@@ -126,6 +144,11 @@ pub fn unite() {
                 "single tokens, the second's all below the first's",
                 &falls,
                 &low,
+            ),
+            (
+                "single tokens, the second's all amid the first's",
+                &ends,
+                &falls,
             ),
         ] {
             let (first, second) = (ruled(lent(x)), ruled(lent(y)));
@@ -180,7 +203,7 @@ pub fn shrink() {
             1,
         ));
         let star = flat(&LookaheadDFA::from_k_tuples(
-            &KTuples::of(&strings(&single_list(states, false))),
+            &KTuples::of(&strings(&single_list(states, rise))),
             1,
         ));
         let mut all = trie.clone();
