@@ -19,7 +19,7 @@ fn written(production: Production, tokens: &[u16], lengths: &[usize], out: &mut 
     ensures { λ r. ⌜ Makes (within (built (production .0) (strings (now (lengths .entry)) (now (tokens .entry)))))
         r (now (out .entry)) (now (out .exit)) ⌝ }
 {
-    let mut buf = [0i32; 8192];
+    let mut buf = [0i32; 4608];
     let made = strings::add_strings(&mut buf, production, tokens, lengths);
     match made {
         Table::Full => Making::Refused(Refusal::Full),

@@ -160,19 +160,19 @@ fn next_code(code: usize, state: State, production: Production) -> usize
     code
 }
 
-// All strings: each is read from the rest of the token slice. The rows begin in the middle of the array.
+// All strings: each is read from the rest of the token slice. The rows begin at row 128 of the array.
 pub fn add_strings(
     buf: &mut [i32],
     production: Production,
     tokens: &[u16],
     lengths: &[usize],
 ) -> Table
-    requires { ⌜ Laid (view (now buf) 1024) 0 × (sum (now lengths) ≡ length (now tokens)) ⌝ }
+    requires { ⌜ Laid (view (now buf) 128) 0 × (sum (now lengths) ≡ length (now tokens)) ⌝ }
     ensures { λ r. ⌜ Grows (now (buf .exit))
         (built (production .0) (strings (now (lengths .entry)) (now (tokens .entry)))) r ⌝ }
 {
     let mut rest = tokens;
-    let mut l = 1024;
+    let mut l = 128;
     let mut n = 0;
     let mut code = first_code(lengths, production);
     let mut k = 0;

@@ -1,6 +1,6 @@
 pub mod Shifted
 pub mod Lowered
-pub mod Ends
+pub mod PutIn
 pub mod Written
 pub mod Placed
 pub mod Viewed

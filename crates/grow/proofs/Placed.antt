@@ -150,10 +150,10 @@ module _ (buf : List ℤ) (n i s t c : ℕ) (a : Adding buf n i s t c) where
     pub added : Added buf new n i s t c
     added = record {
       there = omega (arith, place-within);
-      at = sym (held-at new (suc n) (omega (arith, a .more, laid .room, e .room)) i (omega (arith, place-within)))
+      at = sym (held-at new (suc n) (omega (arith, a .more, e .room)) i (omega (arith, place-within)))
           ∙ ap (λ (l : List Row). getD l i no-row) (ap rows-in now-written ∙ rows-numbers (insert r rs) ∙ split)
           ∙ getD-at (take i rs) r (drop i rs) no-row i (length-take-le i rs (omega (arith, place-within, rows-long)));
-      laid = laid-by new (suc n) (insert r rs) (omega (arith, a .more)) (omega (arith, laid .room, e .room)) now-written
+      laid = laid-by new (suc n) (insert r rs) (omega (arith, a .more)) (e .room) now-written
           (every-true row-fits (insert r rs)
           (λ x j. ⊎-elim (λ k. ap row-fits k ∙ own) (λ k. old x k) (in-insert r rs x j)))
           (rising-true (insert r rs) (rising-insert r rs (true-rising rs (laid .passed .rises)) (a .missed .new)));

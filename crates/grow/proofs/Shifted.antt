@@ -1,4 +1,4 @@
--- Rows moved up from the last down make room for one, and a row put there is put in.
+-- Rows moved up from the last down make room, and a row put there is put in.
 -- Assumes nothing.
 use mathlib.Core.Path.{_≡_, refl, ap, sym, _∙_}
 use mathlib.Core.List.{List, [], _∷_, _++_, append-assoc}
@@ -6,7 +6,7 @@ use Prim.Native.Nat.{ℕ, zero, suc, _+_, _-_, _*_, _<_, _≤_}
 use native.Mathlib.Omega.{arith}
 use native.Mathlib.Nat.{sub-self}
 use lib.ListN.{length, getD, take, drop, set, length-append, length-drop, take-append-drop, List·getD-append}
-use lib.Seq.{drop-cons, length-take-le, getD-take, take-append-le, sets-eq, take-take, drop-at}
+use lib.Seq.{drop-cons, length-take-le, getD-take, take-append-le, sets-eq, take-take, take-at, drop-at}
 use lib.IntN.{ℤ, pos}
 use mir.Syntax.{w32}
 use mir.Val.{toZ, ofZ}
@@ -59,19 +59,19 @@ put-after l r m i w x y z e h =
     let b : drop (i * 4 + 4) (take m l ++ r) ≡ r = drop-at (take m l) r (i * 4 + 4) (omega arith) in
     rw (a, b)
 
-module _ (l : List ℤ) (n : ℕ) (room : n * 4 + 3 < length l) where
-  pub open-none : l ≡ opened l n n
+module _ (l : List ℤ) (d n : ℕ) (room : n * 4 + d * 4 ≤ length l) where
+  pub open-none : l ≡ opened l d n n
   unfolding opened
-  open-none = sym (rw sub-self (take-append-drop (n * 4 + 4) l))
+  open-none = sym (rw sub-self (take-append-drop (n * 4 + d * 4) l))
 
-  open-read : (k j : ℕ) → k ≤ n → j < k * 4 + 4 → getD (opened l n k) j (pos 0) ≡ getD l j (pos 0)
+  open-read : (k j : ℕ) → k ≤ n → j < k * 4 + d * 4 → getD (opened l d n k) j (pos 0) ≡ getD l j (pos 0)
   unfolding opened
   open-read k j h m =
-      List·getD-append (take (k * 4 + 4) l) (take (n * 4 - k * 4) (drop (k * 4) l) ++ drop (n * 4 + 4) l) (pos 0) j
-      (omega (arith, length-take-le (k * 4 + 4) l (omega arith)))
-      ∙ getD-take (k * 4 + 4) l j (pos 0) m
+      List·getD-append (take (k * 4 + d * 4) l) (take (n * 4 - k * 4) (drop (k * 4) l) ++ drop (n * 4 + d * 4) l)
+      (pos 0) j (omega (arith, length-take-le (k * 4 + d * 4) l (omega arith)))
+      ∙ getD-take (k * 4 + d * 4) l j (pos 0) m
 
-  pub open-step : (k : ℕ) → k < n → up-row (opened l n (k + 1)) k ≡ opened l n k
+  pub open-step : (k : ℕ) → k < n → up-row (opened l d n (k + 1)) d k ≡ opened l d n k
   unfolding opened
   open-step k h =
       let up : take (n * 4 - k * 4) (drop (k * 4) l)
@@ -80,38 +80,50 @@ module _ (l : List ℤ) (n : ℕ) (room : n * 4 + 3 < length l) where
       let s : n * 4 - k * 4 ≡ suc (suc (suc (suc (n * 4 - (k + 1) * 4)))) = omega arith in
       let t : (k + 1) * 4 ≡ k * 4 + 4 = omega arith in
       rw (s, t, row-off l k (omega arith)) in
-      let v : (k + 1) * 4 ≡ k * 4 + 4 = omega arith in
-      let a : getD (opened l n (k + 1)) (k * 4) (pos 0) ≡ getD l (k * 4) (pos 0) =
+      let v : (k + d) * 4 ≡ k * 4 + d * 4 = omega arith in
+      let r₀ : getD (opened l d n (k + 1)) (k * 4) (pos 0) ≡ getD l (k * 4) (pos 0) =
       open-read (k + 1) (k * 4) (omega arith) (omega arith) in
-      let b : getD (opened l n (k + 1)) (k * 4 + 1) (pos 0) ≡ getD l (k * 4 + 1) (pos 0) =
+      let r₁ : getD (opened l d n (k + 1)) (k * 4 + 1) (pos 0) ≡ getD l (k * 4 + 1) (pos 0) =
       open-read (k + 1) (k * 4 + 1) (omega arith) (omega arith) in
-      let c : getD (opened l n (k + 1)) (k * 4 + 2) (pos 0) ≡ getD l (k * 4 + 2) (pos 0) =
+      let r₂ : getD (opened l d n (k + 1)) (k * 4 + 2) (pos 0) ≡ getD l (k * 4 + 2) (pos 0) =
       open-read (k + 1) (k * 4 + 2) (omega arith) (omega arith) in
-      let d : getD (opened l n (k + 1)) (k * 4 + 3) (pos 0) ≡ getD l (k * 4 + 3) (pos 0) =
+      let r₃ : getD (opened l d n (k + 1)) (k * 4 + 3) (pos 0) ≡ getD l (k * 4 + 3) (pos 0) =
       open-read (k + 1) (k * 4 + 3) (omega arith) (omega arith) in
-      put-after l (take (n * 4 - (k + 1) * 4) (drop ((k + 1) * 4) l) ++ drop (n * 4 + 4) l) ((k + 1) * 4 + 4) (k + 1)
-      _ _ _ _ refl (omega arith)
-      ∙ rw (a, b, c, d, up, v)
-
-  -- the row in the room that was made for it
-  pub fill : (p : ℕ) (w x y z : ℤ) → p ≤ n → over-row (opened l n p) p w x y z ≡ inserted l n p w x y z
-  unfolding opened inserted
-  fill p w x y z h =
-      put-after l (take (n * 4 - p * 4) (drop (p * 4) l) ++ drop (n * 4 + 4) l) (p * 4 + 4) p w x y z refl (omega arith)
+      put-after l (take (n * 4 - (k + 1) * 4) (drop ((k + 1) * 4) l) ++ drop (n * 4 + d * 4) l) ((k + 1) * 4 + d * 4)
+      (k + d) _ _ _ _ (omega arith) (omega arith)
+      ∙ rw (r₀, r₁, r₂, r₃, up, v)
 
   -- four steps at once
-  pub open-four : (k : ℕ) → k + 4 ≤ n → up-four (opened l n (k + 4)) k ≡ opened l n k
+  pub open-four : (k : ℕ) → k + 4 ≤ n → up-four (opened l d n (k + 4)) d k ≡ opened l d n k
   open-four k h =
       let a : k + 4 ≡ k + 3 + 1 = omega arith in
       let b : k + 3 ≡ k + 2 + 1 = omega arith in
       let c : k + 2 ≡ k + 1 + 1 = omega arith in
-      ap (λ (m : List ℤ). up-row (up-row (up-row m (k + 2)) (k + 1)) k)
-      (ap (λ (j : ℕ). up-row (opened l n j) (k + 3)) a ∙ open-step (k + 3) (omega arith))
-      ∙ ap (λ (m : List ℤ). up-row (up-row m (k + 1)) k)
-      (ap (λ (j : ℕ). up-row (opened l n j) (k + 2)) b ∙ open-step (k + 2) (omega arith))
-      ∙ ap (λ (m : List ℤ). up-row m k)
-      (ap (λ (j : ℕ). up-row (opened l n j) (k + 1)) c ∙ open-step (k + 1) (omega arith))
+      ap (λ (m : List ℤ). up-row (up-row (up-row m d (k + 2)) d (k + 1)) d k)
+      (ap (λ (j : ℕ). up-row (opened l d n j) d (k + 3)) a ∙ open-step (k + 3) (omega arith))
+      ∙ ap (λ (m : List ℤ). up-row (up-row m d (k + 1)) d k)
+      (ap (λ (j : ℕ). up-row (opened l d n j) d (k + 2)) b ∙ open-step (k + 2) (omega arith))
+      ∙ ap (λ (m : List ℤ). up-row m d k)
+      (ap (λ (j : ℕ). up-row (opened l d n j) d (k + 1)) c ∙ open-step (k + 1) (omega arith))
       ∙ open-step k (omega arith)
+
+  -- all rows moved up, and seen from where they then begin
+  pub slid-rows : take (n * 4) (drop (d * 4) (opened l d n 0)) ≡ take (n * 4) l
+  unfolding opened
+  slid-rows =
+      let e : 0 * 4 + d * 4 ≡ d * 4 = omega arith in
+      let f : n * 4 - 0 * 4 ≡ n * 4 = omega arith in
+      rw (e, f) (ap (take (n * 4))
+      (drop-at (take (d * 4) l) (take (n * 4) l ++ drop (n * 4 + d * 4) l) (d * 4)
+      (length-take-le (d * 4) l (omega arith)))
+      ∙ take-at (take (n * 4) l) (drop (n * 4 + d * 4) l) (n * 4) (length-take-le (n * 4) l (omega arith)))
+
+-- the row in the room that was made for it
+pub fill : (l : List ℤ) (n p : ℕ) (w x y z : ℤ) → n * 4 + 4 ≤ length l → p ≤ n
+    → over-row (opened l 1 n p) p w x y z ≡ inserted l n p w x y z
+unfolding opened inserted
+fill l n p w x y z m h =
+    put-after l (take (n * 4 - p * 4) (drop (p * 4) l) ++ drop (n * 4 + 4) l) (p * 4 + 4) p w x y z refl (omega arith)
 
 pub insert-same : (l : List ℤ) (n p : ℕ) {w x y z a b c d : ℤ} → w ≡ a → x ≡ b → y ≡ c → z ≡ d
     → inserted l n p w x y z ≡ inserted l n p a b c d

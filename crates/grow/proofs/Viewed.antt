@@ -14,11 +14,12 @@ use Rattle.rows.specs.Search.{Finds}
 use Rattle.rows.specs.declared.search.Found.{Found}
 use Rattle.rows.specs.declared.search.Found.the-variants.{At, Missing}
 use Rattle.rows.proofs.Bracket.{fit-at}
-use Rattle.grow.specs.Moves.{inserted, put-in, Inserted}
+use Rattle.grow.specs.Moves.{opened, inserted, put-in, Inserted, Slid}
 use Rattle.grow.specs.Held.{view, row-held, Laid, Seeks, Coded}
+use Rattle.grow.proofs.Shifted.{slid-rows}
 use Rattle.grow.proofs.Written.{held-numbers, held-row}
 use Rattle.grow.proofs.Placed.{room}
-use Rattle.grow.proofs.Ends.{from-above, from-below}
+use Rattle.grow.proofs.PutIn.{from-above, from-below}
 
 -- ---- a part of a list from a place on, lent and given back
 abbrev pub part : List ℤ → ℕ → List ℤ
@@ -56,9 +57,9 @@ view-set buf lo i j z =
     let e : (lo + i) * 4 + j ≡ lo * 4 + (i * 4 + j) = omega arith in
     rw e (drop-set-add (lo * 4) buf (i * 4 + j) z)
 
--- what is within the view, and the rows, are within the array
-pub beyond : (buf : List ℤ) (lo m : ℕ) → m < length (view buf lo) → lo * 4 + m < length buf
-beyond buf lo m h = omega (arith, length-drop (lo * 4) buf)
+-- the room for 1,023 rows, and the rows, are within the array
+pub reached : (buf : List ℤ) (lo : ℕ) → 4092 ≤ length (view buf lo) → lo * 4 + 4092 ≤ length buf
+reached buf lo h = omega (arith, length-drop (lo * 4) buf)
 
 pub reach : (buf : List ℤ) (lo n : ℕ) → Laid (view buf lo) n → lo * 4 + n * 4 ≤ length buf
 reach buf lo n l = omega (arith, l .few, l .room, length-drop (lo * 4) buf)
@@ -95,17 +96,18 @@ seeks buf n s t (At i) l h (d, e) = (omega (arith, d, held-numbers buf n (room b
 seeks buf n s t (Missing i) l h (e, p) = record { laid = l; from = h; new = e; place = p }
 
 -- ---- a row put in there, and where the rows begin then
-module _ (buf : List ℤ) (lo n p : ℕ) (w x y z : ℤ) (h : p ≤ n) (m : n * 4 + 3 < length (view buf lo)) where
-  within : lo * 4 ≤ length buf
-  within = omega (arith, beyond buf lo (n * 4 + 3) m)
+module _ (buf : List ℤ) (lo n p : ℕ) (w x y z : ℤ) (h : p ≤ n) (f : n < 1023) (m : 4092 ≤ length (view buf lo)) where
+  within : lo * 4 + 4092 ≤ length buf
+  within = reached buf lo m
 
   pub moved-up : (ys : List ℤ) → ys ≡ inserted (part buf (lo * 4)) n p w x y z
       → length ys ≡ length (part buf (lo * 4))
       → Inserted (view buf lo) (view (back buf (lo * 4) ys) lo) n p w x y z
   moved-up ys e s =
+      let b : lo * 4 ≤ length buf = omega (arith, within) in
       from-above p w x y z (view buf lo) n h (omega arith) (view (back buf (lo * 4) ys) lo)
-      (back-is buf (lo * 4) ys within ∙ e ∙ ap (λ (l : List ℤ). inserted l n p w x y z) (part-is buf (lo * 4)))
-      (omega (arith, ap length (back-is buf (lo * 4) ys within), s, part-long buf (lo * 4), length-drop (lo * 4) buf))
+      (back-is buf (lo * 4) ys b ∙ e ∙ ap (λ (l : List ℤ). inserted l n p w x y z) (part-is buf (lo * 4)))
+      (omega (arith, ap length (back-is buf (lo * 4) ys b), s, part-long buf (lo * 4), within))
 
   pub moved-down : 0 < lo → (ys : List ℤ) → ys ≡ put-in (drop 4 (part buf ((lo - 1) * 4))) p w x y z
       → Inserted (view buf lo) (view (back buf ((lo - 1) * 4) ys) (lo - 1)) n p w x y z
@@ -115,4 +117,19 @@ module _ (buf : List ℤ) (lo n p : ℕ) (w x y z : ℤ) (h : p ≤ n) (m : n * 
       let r : drop 4 (part buf a) ≡ view buf lo =
       ap (drop 4) (part-is buf a) ∙ drop-drop 4 a buf ∙ ap (λ (j : ℕ). drop j buf) k in
       from-below p w x y z (view buf lo) n h (omega arith) (view (back buf a ys) (lo - 1))
-      (back-is buf a ys (omega (arith, within)) ∙ e ∙ ap (λ (l : List ℤ). put-in l p w x y z) r)
+      (back-is buf a ys (omega (arith, within)) ∙ e ∙ ap (λ (l : List ℤ). put-in l p w x y z) r) m
+
+-- ---- rows that slid up, or stayed
+module _ (buf : List ℤ) (lo n : ℕ) (f : n < 1023) (m : 4092 ≤ length (view buf lo)) where
+  pub stayed : Slid (view buf lo) (view buf lo) n
+  stayed = record { rows = refl; room = m }
+
+  pub slid : lo ≤ 0 → 4604 ≤ length buf → (new : List ℤ) → new ≡ opened buf 128 n 0 → length new ≡ length buf
+      → Slid (view buf lo) (view new 128) n
+  slid z k new e s =
+      let o : lo * 4 ≡ 0 = omega arith in
+      record {
+        rows = ap (λ (l : List ℤ). take (n * 4) (view l 128)) e ∙ slid-rows buf 128 n (omega arith)
+            ∙ ap (λ (j : ℕ). take (n * 4) (drop j buf)) (sym o);
+        room = omega (arith, s, length-drop 512 new);
+      }

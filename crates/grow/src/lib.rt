@@ -1,5 +1,6 @@
 // Rows that grow: n rows stand in a lent array from row lo on, and a new row moves the fewer of them, up or down.
 mod down;
+mod ends;
 mod up;
 
 use paper::Making;
@@ -13,7 +14,7 @@ ghost use Prim.Native.Nat.{_+_, _*_, _<_, _≤_, max};
 ghost use lib.ListN.{length};
 ghost use Rattle.paper.specs.Answers.{Makes};
 ghost use Rattle.paper.specs.Build.{within};
-ghost use Rattle.grow.specs.Moves.{Inserted, front};
+ghost use Rattle.grow.specs.Moves.{front};
 ghost use Rattle.grow.specs.Held.{view, row-held, Laid, table-of, Seeks, Adding, Added, Giving, Given, Coded};
 
 // The row of a state and a terminal among n rows, or where it would go.
@@ -41,22 +42,6 @@ pub fn code_at(buf: &[i32], lo: usize, n: usize, i: usize) -> usize
     numbers::code_at(buf, lo + i)
 }
 
-// Four numbers are put in before row p of n, and the fewer rows make room; the answer is where the rows now begin.
-fn insert(buf: &mut [i32], lo: usize, n: usize, p: usize, w: i32, x: i32, y: i32, z: i32) -> usize
-    requires { ⌜ (p ≤ n) × (n * 4 + 3 < length (view (now buf) lo)) ⌝ }
-    ensures { λ r. ⌜ Inserted (view (now (buf .entry)) lo) (view (now (buf .exit)) r) n p w x y z ⌝ }
-{
-    if 0 < lo {
-        if p + p < n {
-            let low = lo - 1;
-            down::insert_row(&mut buf[low * 4..], p, w, x, y, z);
-            return low;
-        }
-    }
-    up::insert_row(&mut buf[lo * 4..], n, p, w, x, y, z);
-    lo
-}
-
 // The row from s by t to the next state, with the production of a code, is put in at its place i among n rows.
 // The answer is where the rows now begin.
 pub fn add(
@@ -75,7 +60,7 @@ pub fn add(
     let terminal = numbers::number_of(t.0 as usize);
     let to = numbers::number_of(n + 1);
     let production = numbers::production_of(code);
-    insert(buf, lo, n, i, from, terminal, to, production)
+    ends::insert(buf, lo, n, i, from, terminal, to, production)
 }
 
 // The state that row i of n leads to gets the production of a code.

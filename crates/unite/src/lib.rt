@@ -34,17 +34,17 @@ fn full(mode: Mode, a: &[i32], b: &[i32]) -> Making
     }
 }
 
-// The second's rows taken into an array with the first's, which begin in its middle, and the rows at the front of the
+// The second's rows taken into an array with the first's, which begin at row 128, and the rows at the front of the
 // output.
 fn joined(mode: Mode, code: usize, k: usize, a: &[i32], b: &[i32], out: &mut [i32]) -> Making
     requires { ⌜ Treed (now a) × Treed (now b) × (code ≤ 65536) × (16384 ≤ length (now out)) ⌝ }
     ensures { λ r. ⌜ Makes (joining mode (uncoded code) k (rows-in (now (a .entry))) (rows-in (now (b .entry))))
         r (now (out .entry)) (now (out .exit)) ⌝ }
 {
-    let mut buf = [0i32; 8192];
+    let mut buf = [0i32; 4608];
     let mut map = [0u16; 1024];
-    grow::copy_rows(a, &mut buf, 1024);
-    let union = taking::take_rows(mode, &mut buf, 1024, a.len() / 4, b, &mut map);
+    grow::copy_rows(a, &mut buf, 128);
+    let union = taking::take_rows(mode, &mut buf, 128, a.len() / 4, b, &mut map);
     match union {
         Union::Clash(p, q) => Making::Refused(Refusal::Clash(p, q)),
         Union::Full => full(mode, a, b),

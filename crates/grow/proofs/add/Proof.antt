@@ -4,14 +4,14 @@ use native.Mathlib.Numerals.{add-one}
 use lib.IntN.{pos}
 use Rattle.grow.specs.Held.{view}
 use Rattle.grow.proofs.Shifted.{passed-number, passed-production}
-use Rattle.grow.proofs.Ends.{inserted-as}
+use Rattle.grow.proofs.PutIn.{inserted-as}
 use Rattle.grow.proofs.Placed.{place-within, added}
 use borrow.Author.Needs.{needs}
 use Rattle.grow.proofs.add.Statement.{statement}
 use Rattle.grow.proofs.add.Tie as tie
 use Rattle.grow.proofs.add.Reads as reads
 use Rattle.grow.proofs.add.Lts as lts
-use Rattle.grow.proofs.insert.Reads as insert-reads
+use Rattle.grow.proofs.ends.insert.Reads as insert-reads
 use Rattle.rows.proofs.numbers.number_of.Reads as number-of-reads
 use Rattle.rows.proofs.numbers.production_of.Reads as production-of-reads
 
@@ -50,7 +50,8 @@ insert-requires c κs =
     let a = s .args in
     let p = s .pre in (
       place-within (view (a .buf .now) (a .lo)) (a .n) (a .i) (a .s .0) (a .t .0) (a .code) p,
-      omega (arith, p .more, p .missed .laid .room),
+      p .more,
+      p .missed .laid .room,
     )
 
 -- src/lib.rt:62:1

@@ -34,8 +34,8 @@ slice-aggregate-take-rows : tie.Need-slice-aggregate-take-rows
 slice-aggregate-take-rows c = search needs
 
 -- the array with the first's rows, and what came of the second's
-long : (c : tie.After-copy-rows) → 4092 ≤ length (view (c .copy-rows .last .1 .0) 1024)
-long c = omega (arith, c .copy-rows .kept .1 .0, length-drop 4096 (c .copy-rows .last .1 .0))
+long : (c : tie.After-copy-rows) → 4092 ≤ length (view (c .copy-rows .last .1 .0) 128)
+long c = omega (arith, c .copy-rows .kept .1 .0, length-drop 512 (c .copy-rows .last .1 .0))
 
 ended : (c : tie.After-take-rows) (x : Union) → c .take-rows .result ≡ x
     → let a = c .before .before .before .before .before .before .args in
@@ -45,7 +45,7 @@ ended c x e =
     let s = f .before .before in
     let a = s .args in
     union-as (a .mode) (rows-in (a .b .now)) (c .take-rows .last .1 .0)
-    (copied-rows (a .a .now) _ (view (f .copy-rows .last .1 .0) 1024) (s .pre .0) (f .copy-rows .ensures) (long f)) e
+    (copied-rows (a .a .now) _ (view (f .copy-rows .last .1 .0) 128) (s .pre .0) (f .copy-rows .ensures) (long f)) e
     (c .take-rows .ensures)
 
 -- src/lib.rt:45:9
@@ -54,8 +54,8 @@ take-rows-requires c κs =
     let f = c .before .before .before in
     let s = f .before .before in
     let a = s .args in (
-      copied-laid (a .a .now) _ (view (f .copy-rows .last .1 .0) 1024) (s .pre .0) (f .copy-rows .ensures) (long f),
-      subst Tree (sym (copied-rows (a .a .now) _ (view (f .copy-rows .last .1 .0) 1024) (s .pre .0) (f .copy-rows .ensures)
+      copied-laid (a .a .now) _ (view (f .copy-rows .last .1 .0) 128) (s .pre .0) (f .copy-rows .ensures) (long f),
+      subst Tree (sym (copied-rows (a .a .now) _ (view (f .copy-rows .last .1 .0) 128) (s .pre .0) (f .copy-rows .ensures)
           (long f)))
           (s .pre .0 .tree),
       s .pre .1,

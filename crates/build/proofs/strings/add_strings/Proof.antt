@@ -32,7 +32,7 @@ loop-holds c =
     let s = c .before .before .before in
     let a = s .args in (
       refl,
-      lists-all (a .production .0) (a .tokens .now) (a .lengths .now) (view (a .buf .now) 1024) _ (s .pre .0) (s .pre .1)
+      lists-all (a .production .0) (a .tokens .now) (a .lengths .now) (view (a .buf .now) 128) _ (s .pre .0) (s .pre .1)
           (c .first-code .ensures),
     )
 

@@ -1,4 +1,5 @@
 use mathlib.Core.Path.{ap, _∙_}
+use native.Mathlib.Omega.{arith}
 use mathlib.Core.List.{List}
 use lib.IntN.{ℤ}
 use Rattle.rows.proofs.Signed.{same}
@@ -33,7 +34,7 @@ returns c =
     c .before .put-row .ensures
     ∙ over-same (a .p) (o .open-rows .ensures) (same (a .w) (s .fits .w)) (same (a .x) (s .fits .x))
     (same (a .y) (s .fits .y)) (same (a .z) (s .fits .z))
-    ∙ fill (a .buf .now) (a .n) (s .pre .1) (a .p) (a .w) (a .x) (a .y) (a .z) (s .pre .0)
+    ∙ fill (a .buf .now) (a .n) (a .p) (a .w) (a .x) (a .y) (a .z) (omega arith) (s .pre .0)
 
 pub insert-row-spec : {M : Type 1} → statement M
 insert-row-spec = tie.close (tie.spec open-rows-requires put-row-requires same-length returns)

@@ -49,10 +49,10 @@ returns c =
     let f = d .before .before .before in
     let g = f .before .before .before in
     let h = g .before .before .before in
-    let i = h .before .before .args .i in
-    d .move-row4 .ensures ∙ ap (λ (m : List ℤ). up-row m i) (
-    f .move-row3 .ensures ∙ ap (λ (m : List ℤ). up-row m (i + 1)) (
-    g .move-row2 .ensures ∙ ap (λ (m : List ℤ). up-row m (i + 2)) (h .move-row .ensures)))
+    let a = h .before .before .args in
+    d .move-row4 .ensures ∙ ap (λ (m : List ℤ). up-row m (a .d) (a .i)) (
+    f .move-row3 .ensures ∙ ap (λ (m : List ℤ). up-row m (a .d) (a .i + 1)) (
+    g .move-row2 .ensures ∙ ap (λ (m : List ℤ). up-row m (a .d) (a .i + 2)) (h .move-row .ensures)))
 
 pub move-four-spec : {M : Type 1} → statement M
 move-four-spec =

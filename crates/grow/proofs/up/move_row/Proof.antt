@@ -87,7 +87,7 @@ returns c =
     let z = c .before .before .before in
     let s = z .before .before .before .before in
     c .before .put-row .ensures
-    ∙ over-same (s .args .i + 1) refl (back _ (z .before .before .before .w .given))
+    ∙ over-same (s .args .i + s .args .d) refl (back _ (z .before .before .before .w .given))
     (back _ (z .before .before .x .given)) (back _ (z .before .y .given)) (back _ (z .z .given))
 
 pub move-row-spec : {M : Type 1} → statement M

@@ -15,14 +15,14 @@ use Rattle.grow.proofs.up.move_four.Reads as move-four-reads
 use Rattle.grow.proofs.up.move_row.Reads as move-row-reads
 
 abbrev Inv-loop : tie.InvT-loop
-Inv-loop buf₀ n p i₀ buf i = (p ≤ i) × (i ≤ n) × (length buf ≡ length buf₀) × (buf ≡ opened buf₀ n i)
+Inv-loop buf₀ d n p i₀ buf i = (p ≤ i) × (i ≤ n) × (length buf ≡ length buf₀) × (buf ≡ opened buf₀ d n i)
 
 abbrev μ-loop : tie.MeasureT-loop
-μ-loop buf₀ n p i₀ buf i = i
+μ-loop buf₀ d n p i₀ buf i = i
 
 -- src/lib.rt:54:5
 loop-holds : tie.Need-loop-holds Inv-loop μ-loop
-loop-holds c = (omega arith, omega arith, refl, open-none (c .args .buf .now) (c .args .n) (c .pre .1))
+loop-holds c = (omega arith, omega arith, refl, open-none (c .args .buf .now) (c .args .d) (c .args .n) (c .pre .1))
 
 -- src/lib.rt:55:12
 add-if1 : tie.Need-add-if1 Inv-loop μ-loop
@@ -46,6 +46,7 @@ loop-again c =
     let l = c .before .before .before .before .before in
     let s = l .before in
     let b = s .args .buf .now in
+    let d = s .args .d in
     let n = s .args .n in
     let k = l .loop .i - 4 in
     let e : l .loop .i ≡ k + 4 = omega arith in (
@@ -53,8 +54,8 @@ loop-again c =
       omega arith,
       c .before .move-four .kept .0 ∙ l .loop .inv .2,
       c .before .move-four .ensures
-          ∙ ap (λ (m : List ℤ). up-four m k) (l .loop .inv .3 ∙ ap (opened b n) e)
-          ∙ open-four b n (s .pre .1) k (omega arith),
+          ∙ ap (λ (m : List ℤ). up-four m d k) (l .loop .inv .3 ∙ ap (opened b d n) e)
+          ∙ open-four b d n (s .pre .1) k (omega arith),
     )
 
 -- src/lib.rt:60:9
@@ -75,6 +76,7 @@ loop-again-2 c =
     let l = c .before .before .before .before .before in
     let s = l .before in
     let b = s .args .buf .now in
+    let d = s .args .d in
     let n = s .args .n in
     let k = l .loop .i - 1 in
     let e : l .loop .i ≡ k + 1 = omega arith in (
@@ -82,8 +84,8 @@ loop-again-2 c =
       omega arith,
       c .before .move-row .kept .0 ∙ l .loop .inv .2,
       c .before .move-row .ensures
-          ∙ ap (λ (m : List ℤ). up-row m k) (l .loop .inv .3 ∙ ap (opened b n) e)
-          ∙ open-step b n (s .pre .1) k (omega arith),
+          ∙ ap (λ (m : List ℤ). up-row m d k) (l .loop .inv .3 ∙ ap (opened b d n) e)
+          ∙ open-step b d n (s .pre .1) k (omega arith),
     )
 
 -- src/lib.rt:49:1
@@ -95,7 +97,7 @@ returns : tie.Need-returns Inv-loop μ-loop
 returns c =
     let s = c .before .before in
     let e : c .before .loop .i ≡ s .args .p = omega arith in
-    c .before .loop .inv .3 ∙ ap (opened (s .args .buf .now) (s .args .n)) e
+    c .before .loop .inv .3 ∙ ap (opened (s .args .buf .now) (s .args .d) (s .args .n)) e
 
 pub open-rows-spec : {M : Type 1} → statement M
 open-rows-spec =

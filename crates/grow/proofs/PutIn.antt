@@ -7,7 +7,7 @@ use native.Mathlib.Omega.{arith}
 use lib.ListN.{length, take, drop, length-append, length-drop, take-append-drop}
 use lib.Seq.{length-take-le, take-take, take-nil, take-at}
 use lib.IntN.{ℤ}
-use Rattle.grow.specs.Moves.{inserted, put-in, Inserted}
+use Rattle.grow.specs.Moves.{inserted, put-in, Inserted, Slid}
 
 drop-take : (i n : ℕ) (l : List ℤ) → i ≤ n → drop i (take n l) ≡ take (n - i) (drop i l)
 drop-take zero n l h = let e : n - zero ≡ n = omega arith in rw e
@@ -46,17 +46,16 @@ module _ (p : ℕ) (w x y z : ℤ) where
         ap (take (n * 4 + 4)) e ∙ take-at (put-in (take (n * 4) l) p w x y z) r (n * 4 + 4)
         (omega (arith, length-put (take (n * 4) l) (omega arith)))
 
-    pub from-above : (new : List ℤ) → new ≡ inserted l n p w x y z → length l ≤ length new
-        → Inserted l new n p w x y z
+    pub from-above : (new : List ℤ) → new ≡ inserted l n p w x y z → 4092 ≤ length new → Inserted l new n p w x y z
     unfolding inserted
     from-above new e s = record {
       rows = began new (drop (n * 4 + 4) l) (e ∙ put-before l n (drop (n * 4 + 4) l) h m);
       room = s;
     }
 
-    pub from-below : (new : List ℤ) → new ≡ put-in l p w x y z → Inserted l new n p w x y z
+    pub from-below : (new : List ℤ) → new ≡ put-in l p w x y z → 4092 ≤ length l → Inserted l new n p w x y z
     unfolding put-in
-    from-below new e =
+    from-below new e s =
         let r : List ℤ = drop (n * 4 - p * 4) (drop (p * 4) l) in
         let c : drop (p * 4) l ≡ take (n * 4 - p * 4) (drop (p * 4) l) ++ r =
         sym (take-append-drop (n * 4 - p * 4) (drop (p * 4) l)) in
@@ -72,3 +71,9 @@ pub inserted-as : {old new : List ℤ} {n p : ℕ} {w x y z a b c d : ℤ} → w
     → Inserted old new n p w x y z → Inserted old new n p a b c d
 inserted-as {old} {new} {n} {p} q r s t i =
     record { rows = i .rows ∙ put-same (take (n * 4) old) p q r s t; room = i .room }
+
+-- rows that slid, and then had a row put in
+pub slid-inserted : (old mid new : List ℤ) (n p : ℕ) (w x y z : ℤ) → Slid old mid n → Inserted mid new n p w x y z
+    → Inserted old new n p w x y z
+slid-inserted old mid new n p w x y z s i =
+    record { rows = i .rows ∙ ap (λ (l : List ℤ). put-in l p w x y z) (s .rows); room = i .room }
