@@ -21,7 +21,7 @@ fn trip(prod0: i32, k: usize, rows: &[i32], bytes: &mut [u8], out: &mut [i32]) -
     let outcome = compare::tried(slice::front_bytes(bytes, n), &mut numbers, out);
     Outcome {
         number: outcome.number,
-        right: n != 0 && outcome.right && is_same(prod0, k, rows, &numbers),
+        right: outcome.number == 0 && outcome.right && is_same(prod0, k, rows, &numbers),
     }
 }
 
