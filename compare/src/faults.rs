@@ -117,8 +117,10 @@ pub fn run() {
 /// A whole run with a fault in it: its last line, after it has failed as it must.
 fn failed_run() -> String {
     let program = std::env::current_exe().expect("the path of this program");
-    let run = std::process::Command::new(program).arg("fault").output();
-    let run = run.expect("a run of this program");
+    let mut run = std::process::Command::new(program);
+    // One thread, so that it says the same every time.
+    run.arg("fault").env("COMPARE_THREADS", "1");
+    let run = run.output().expect("a run of this program");
     let said = String::from_utf8_lossy(&run.stderr).into_owned();
     let last = said.lines().last().unwrap_or_default();
     if run.status.code() != Some(1) || !last.starts_with("differs: ") {
