@@ -83,7 +83,7 @@ pub fn build() {
     println!("|---|---|---|---|");
     let mut dice = Dice::new(3);
     let mut out = vec![0; 16384];
-    for states in [10, 100, 1000] {
+    for states in [10, 100, 500, 1000] {
         let shapes = [
             ("random strings", random_list(&mut dice, states)),
             ("strings of 16", long_list(states)),
@@ -110,7 +110,7 @@ pub fn unite() {
     println!("|---|---|---|---|");
     let mut dice = Dice::new(4);
     let mut out = vec![0; 16384];
-    for states in [10, 100, 1000] {
+    for states in [10, 100, 500, 1000] {
         let half = states / 2 + 1;
         let a = flat(&LookaheadDFA::from_k_tuples(
             &KTuples::of(&strings(&random_list(&mut dice, half))),
@@ -195,7 +195,7 @@ pub fn shrink() {
     println!("|---|---|---|---|---|---|");
     let mut dice = Dice::new(5);
     let mut out = vec![0; 16384];
-    for states in [100, 500, 1000] {
+    for states in [10, 100, 500, 1000] {
         let trie = tree(&mut dice, states, 40, &[1]);
         let narrow = tree(&mut dice, states, 2, &[1]);
         let comb = flat(&LookaheadDFA::from_k_tuples(

@@ -140,7 +140,7 @@ pub fn explain() {
     println!("| ratio | rows, k | the Rust's build_error | ours |");
     println!("|---|---|---|---|");
     let mut dice = Dice::new(8);
-    for (rows, k) in [(5, 2), (30, 3), (100, 4), (500, 8), (1000, 16)] {
+    for (rows, k) in [(5, 2), (10, 2), (30, 3), (100, 4), (500, 8), (1000, 16)] {
         let t = table(&mut dice, rows, k);
         let lent = Lent {
             prod0: t.prod0,

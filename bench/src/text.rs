@@ -33,7 +33,7 @@ pub fn run() {
     println!("\n## text, nanoseconds a byte\n");
     println!("| ratio | call | plain Rust | ours |");
     println!("|---|---|---|---|");
-    for count in [10, 100, 1000, 4096] {
+    for count in [10, 100, 500, 1000, 4096] {
         let rows: Vec<i32> = (0..count)
             .flat_map(|i| [i / 4, 60000 + i % 4, (i * 7) % 1024, i % 65536 - 1])
             .collect();
