@@ -1,9 +1,9 @@
 -- One token: along its row, or into a new state, as document 01 has it.
 -- Assumes nothing.
 use mathlib.Core.Path.{_≡_, refl, ap, sym, _∙_}
-use mathlib.Core.Option.{Option, none, some}
-use mathlib.Core.List.{List, [], _∷_}
-use Prim.Native.Nat.{ℕ, zero, suc, _+_, _-_, _*_, _/_, _<_, _≤_}
+use mathlib.Core.Option.{none, some}
+use mathlib.Core.List.{List}
+use Prim.Native.Nat.{ℕ, zero, suc, _+_, _-_, _<_, _≤_}
 use native.Mathlib.Omega.{arith}
 use native.Mathlib.Numerals.{add-one}
 use lib.ListN.{length}
@@ -15,7 +15,7 @@ use Rattle.trees.proofs.Find.{length-insert}
 use Rattle.grow.specs.Held.{held, row-held, Laid, Missed, Adding, next, Added}
 use Rattle.grow.proofs.Written.{held-numbers, held-length}
 use Rattle.grow.proofs.Placed.{room}
-use Rattle.build.specs.Steps.{Leads, standing, Stands}
+use Rattle.build.specs.Steps.{Leads, Stands}
 
 -- a row's to is a state
 pub to-small : (buf : List ℤ) (n i : ℕ) → Laid buf n → i < n → row-held buf n i .to ≤ 1023

@@ -3,7 +3,7 @@ use mathlib.Core.Path.{_≡_}
 use mathlib.Core.Bool.{cond}
 use mathlib.Core.Option.{none, some}
 use mathlib.Core.List.{List, map}
-use Prim.Native.Nat.{ℕ, _+_, _-_, _*_, _≤_, _<_}
+use Prim.Native.Nat.{ℕ, _-_, _≤_, _<_}
 use lib.Dec.{eqb}
 use lib.ListN.{length}
 use lib.IntN.{ℤ}
@@ -12,7 +12,6 @@ use Rattle.paper.specs.Build.{Standing, enter, walk-in}
 use Rattle.rows.specs.Places.{uncoded}
 use Rattle.grow.specs.Held.{view, held, row-held, Laid}
 use Rattle.trees.proofs.Paint.{paint}
-use Rattle.trees.proofs.Tree.{Tree}
 use Rattle.build.specs.declared.strings.Step.{Step}
 use Rattle.build.specs.declared.strings.Step.the-variants.{On, Full}
 use Rattle.build.specs.declared.strings.Table as declared

@@ -2,27 +2,27 @@
 -- Assumes nothing.
 use mathlib.Core.Path.{_≡_, refl, ap, sym, _∙_, subst}
 use mathlib.Core.Bool.{Bool, true, false, cond}
-use mathlib.Core.Option.{Option, none, some}
+use mathlib.Core.Option.{Option, none}
 use mathlib.Core.List.{List, [], _∷_, _++_, map, List·Memᴰ·head, List·Memᴰ·tail, Memᴰ·append-left, Memᴰ·append-right}
 use mathlib.Core.List.{Memᴰ·of-map}
-use Prim.Native.Nat.{ℕ, zero, suc, _+_, _-_, _*_, _<_, _≤_}
+use Prim.Native.Nat.{ℕ, zero, suc, _+_, _-_, _*_, _<_}
 use native.Mathlib.Omega.{arith}
 use borrow.Author.Tests.{eq-eqb, ne-eqb, le-leb}
 use lib.Dec.{eqb}
-use lib.ListN.{length, getD, take, drop, set, length-map}
+use lib.ListN.{length, getD, take, drop, set}
 use lib.Seq.{split-at, length-take-le, take-set-lt}
-use lib.IntN.{ℤ, pos}
+use lib.IntN.{ℤ}
 use Rattle.laws.proofs.Every.{every-true, every-in}
 use Rattle.laws.proofs.RowNumbers.{rows-numbers}
-use Rattle.paper.specs.Rows.{Row, signed, rows-in, numbers, find}
-use Rattle.paper.specs.Checks.{every, row-fits, production-fits, rising}
-use Rattle.rows.specs.Places.{row-at, uncoded}
+use Rattle.paper.specs.Rows.{Row, signed, rows-in, numbers}
+use Rattle.paper.specs.Checks.{row-fits, production-fits, rising}
+use Rattle.rows.specs.Places.{uncoded}
 use Rattle.rows.proofs.Fits.{Fit, fit, code-fits}
 use Rattle.trees.proofs.Find.{In}
-use Rattle.trees.proofs.Rising.{Rising, before-last, after-last, not-before-itself, rising-true, true-rising}
+use Rattle.trees.proofs.Rising.{before-last, after-last, not-before-itself, rising-true, true-rising}
 use Rattle.trees.proofs.Paint.{paint, rising-paint}
 use Rattle.trees.proofs.Tree.{Tree, same-to, up}
-use Rattle.grow.specs.Held.{held, row-held, Laid, Giving, Given}
+use Rattle.grow.specs.Held.{held, row-held, Giving, Given}
 use Rattle.grow.proofs.Written.{no-row, held-length, held-at}
 use Rattle.grow.proofs.Placed.{room, written, laid-by, uncoded-fits, fitting}
 

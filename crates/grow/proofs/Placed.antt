@@ -2,24 +2,22 @@
 -- Assumes nothing.
 use mathlib.Core.Path.{_≡_, refl, ap, sym, _∙_}
 use mathlib.Core.Logic.{⊎-elim}
-use mathlib.Core.Bool.{Bool, true, false, cond, _&&_}
-use mathlib.Core.Option.{Option, none, some}
-use mathlib.Core.List.{List, [], _∷_, _++_, append-assoc}
+use mathlib.Core.Bool.{true, false, _&&_}
+use mathlib.Core.List.{List, [], _∷_, _++_}
 use Prim.Native.Nat.{ℕ, zero, suc, _+_, _-_, _*_, _/_, _<_, _≤_}
 use native.Mathlib.Omega.{arith}
 use borrow.Author.Tests.{le-leb, lt-ltb, le-ltb}
 use lib.Dec.{leb, ltb}
-use lib.ListN.{length, getD, take, drop, length-append, length-drop}
-use lib.Seq.{length-take-le, take-take, take-nil, take-at, getD-at}
+use lib.ListN.{length, getD, take, drop}
+use lib.Seq.{length-take-le, getD-at}
 use lib.IntN.{ℤ, pos}
 use Rattle.laws.proofs.Tests.{never}
 use Rattle.laws.proofs.Every.{both, every-true, every-in}
 use Rattle.laws.proofs.RowNumbers.{rows-numbers}
-use Rattle.paper.specs.Rows.{Row, signed, rows-in, numbers, find}
+use Rattle.paper.specs.Rows.{Row, signed, rows-in, numbers}
 use Rattle.paper.specs.Checks.{every, row-fits, production-fits, before, rising}
 use Rattle.paper.specs.Build.{insert}
 use Rattle.rows.specs.Places.{row-at, key, uncoded}
-use Rattle.rows.specs.Search.{Passed, Lower}
 use Rattle.rows.proofs.Keys.{before-key, compared}
 use Rattle.rows.proofs.Bracket.{fit-at}
 use Rattle.rows.proofs.Found.{found}
@@ -27,17 +25,7 @@ use Rattle.trees.proofs.Find.{In}
 use Rattle.trees.proofs.Rising.{true-rising, rising-true, rising-insert, in-insert}
 use Rattle.grow.specs.Moves.{put-in, Inserted}
 use Rattle.grow.specs.Held.{held, Laid, Adding, next, Added}
-use Rattle.grow.proofs.Written.{
-  numbers-append,
-  numbers-take,
-  numbers-drop,
-  numbers-back,
-  no-row,
-  row-there,
-  held-numbers,
-  held-length,
-  held-at,
-}
+use Rattle.grow.proofs.Written.{numbers-append, numbers-take, numbers-drop, numbers-back, no-row, row-there, held-numbers, held-length, held-at}
 
 -- a row goes before the first row that it comes before
 pub insert-at : (r : Row) (rs : List Row) (p : ℕ) → p ≤ length rs

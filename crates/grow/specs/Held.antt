@@ -55,9 +55,11 @@ pub record Adding (buf : List ℤ) (n i s t code : ℕ) : Type 0 where
   pub terminal : t ≤ 65535
   pub production : code ≤ 65536
 
+-- The row from s by t to the state after n.
 abbrev pub next : ℕ → ℕ → ℕ → ℕ → Row
 next n s t code = record { from = s; terminal = t; to = suc n; production = uncoded code }
 
+-- That row stands at its place, and the rows are the old ones with it inserted.
 pub record Added (old new : List ℤ) (n i s t code : ℕ) : Type 0 where
   pub laid : Laid new (suc n)
   pub there : i < suc n
@@ -71,6 +73,7 @@ pub record Giving (buf : List ℤ) (n i code : ℕ) : Type 0 where
   pub there : i < n
   pub production : code ≤ 65536
 
+-- The rows with that production in each row into the state.
 pub record Given (old new : List ℤ) (n i code : ℕ) : Type 0 where
   pub laid : Laid new n
   pub rows : held new n ≡ map (paint (row-held old n i .to) (uncoded code)) (held old n)

@@ -1,6 +1,6 @@
 -- Four numbers at a time: a row overwritten, rows moved up or down by one, a row put in.
 use mathlib.Core.Path.{_≡_}
-use mathlib.Core.List.{List, [], _∷_, _++_}
+use mathlib.Core.List.{List, _∷_, _++_}
 use Prim.Native.Nat.{ℕ, _+_, _-_, _*_, _≤_}
 use lib.ListN.{length, getD, take, drop}
 use lib.IntN.{ℤ, pos}

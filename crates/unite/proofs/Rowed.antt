@@ -1,22 +1,22 @@
 -- One row of the second taken into the rows of an array.
 -- Assumes nothing.
-use mathlib.Core.Path.{_≡_, refl, ap, sym, _∙_, subst}
+use mathlib.Core.Path.{_≡_, ap, sym, _∙_, subst}
 use mathlib.Core.Option.{Option, none, some}
-use mathlib.Core.List.{List, [], _∷_, map}
-use Prim.Native.Nat.{ℕ, zero, suc, _+_, _*_, _/_, _<_, _≤_}
+use mathlib.Core.List.{List, map}
+use Prim.Native.Nat.{ℕ, suc, _+_, _<_, _≤_}
 use native.Mathlib.Omega.{arith}
 use native.Mathlib.Numerals.{add-one}
-use lib.ListN.{length, take}
+use lib.ListN.{length}
 use lib.IntN.{ℤ}
 use Rattle.paper.specs.declared.Mode.{Mode}
-use Rattle.paper.specs.Rows.{Row, find}
-use Rattle.paper.specs.Answers.{Ruling, accept, refuse, then}
+use Rattle.paper.specs.Rows.{Row}
+use Rattle.paper.specs.Answers.{Ruling, accept, refuse}
 use Rattle.paper.specs.Build.{insert, Standing}
 use Rattle.paper.specs.Unite.{taken}
 use Rattle.rows.specs.Places.{uncoded}
 use Rattle.trees.proofs.Find.{length-insert}
 use Rattle.trees.proofs.Paint.{paint}
-use Rattle.grow.specs.Held.{held, row-held, Laid, Missed, next, Adding, Added, Given}
+use Rattle.grow.specs.Held.{held, row-held, Missed, next, Adding, Added, Given}
 use Rattle.grow.proofs.Written.{held-length}
 use Rattle.grow.proofs.Placed.{room}
 use Rattle.unite.specs.Taking.{taking, Stands, Over, Takes}

@@ -2,11 +2,11 @@
 use mathlib.Core.Path.{_≡_}
 use mathlib.Core.Option.{Option, none, some}
 use mathlib.Core.List.{List, [], _∷_, map}
-use Prim.Native.Nat.{ℕ, suc, _+_, _*_, _/_, _≤_, _<_}
-use lib.ListN.{length, getD, take}
+use Prim.Native.Nat.{ℕ, suc, _*_, _/_, _≤_, _<_}
+use lib.ListN.{length}
 use lib.IntN.{ℤ}
 use Rattle.paper.specs.declared.Mode.{Mode}
-use Rattle.paper.specs.Rows.{Row, find, rows-in}
+use Rattle.paper.specs.Rows.{Row, rows-in}
 use Rattle.paper.specs.declared.Making.{Making}
 use Rattle.paper.specs.Answers.{Ruling, accept, refuse, then, Made, Makes}
 use Rattle.paper.specs.Build.{insert, Standing, within}

@@ -1,4 +1,3 @@
-use native.Mathlib.Omega.{arith}
 use borrow.Author.Needs.{needs}
 use Rattle.grow.proofs.Viewed.{reach, code-read}
 use Rattle.grow.proofs.code_at.Statement.{statement}

@@ -6,7 +6,6 @@ use Rattle.grow.specs.Moves.{front}
 use Rattle.grow.specs.Held.{view}
 use Rattle.grow.proofs.Shifted.{passed-production}
 use Rattle.grow.proofs.Answered.{answers}
-use native.Mathlib.Omega.{arith}
 use Rattle.grow.proofs.Viewed.{reach, rows-part}
 use borrow.Author.Needs.{needs}
 use Rattle.grow.proofs.finish.Statement.{statement}

@@ -4,7 +4,6 @@ use lib.ListN.{length, set, length-set}
 use Rattle.grow.specs.Held.{view}
 use Rattle.grow.proofs.Shifted.{passed-production}
 use Rattle.grow.proofs.Painted.{given}
-use native.Mathlib.Omega.{arith}
 use Rattle.grow.proofs.Viewed.{reach, view-set}
 use borrow.Author.Needs.{needs}
 use Rattle.grow.proofs.give.Statement.{statement}

@@ -1,9 +1,8 @@
 use mathlib.Core.Path.{_≡_, sym, subst}
-use mathlib.Core.List.{List}
 use Prim.Native.Nat.{_/_, _≤_}
 use native.Mathlib.Omega.{arith}
 use lib.ListN.{length, length-drop}
-use Rattle.paper.specs.Rows.{Row, rows-in}
+use Rattle.paper.specs.Rows.{rows-in}
 use Rattle.rows.specs.Places.{uncoded}
 use Rattle.grow.specs.Held.{view}
 use Rattle.ruled.proofs.Arrays.{clear}

@@ -1,5 +1,5 @@
 use native.Mathlib.Omega.{arith}
-use Rattle.rows.specs.declared.search.Found.the-variants.{At, Missing}
+use Rattle.rows.specs.declared.search.Found.the-variants.{At}
 use Rattle.grow.specs.Held.{view, Missed, Seeks}
 use Rattle.build.proofs.Entered.{goes}
 use borrow.Author.Needs.{needs}

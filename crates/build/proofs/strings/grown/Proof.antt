@@ -1,4 +1,3 @@
-use native.Mathlib.Omega.{arith}
 use Rattle.grow.specs.Held.{view}
 use Rattle.build.proofs.Entered.{overflows, grows}
 use borrow.Author.Needs.{needs}

@@ -1,9 +1,6 @@
-use mathlib.Core.Path.{ap, _∙_}
+use mathlib.Core.Path.{_∙_}
 use native.Mathlib.Omega.{arith}
-use mathlib.Core.List.{List}
-use lib.IntN.{ℤ}
 use Rattle.rows.proofs.Signed.{same}
-use Rattle.grow.specs.Moves.{over-row, opened}
 use Rattle.grow.proofs.Shifted.{over-same, fill}
 use borrow.Author.Needs.{needs}
 use Rattle.grow.proofs.up.insert_row.Statement.{statement}
