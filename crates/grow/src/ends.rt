@@ -54,12 +54,11 @@ pub fn insert(
     requires { ⌜ (p ≤ n) × (n < 1023) × (4092 ≤ length (view (now buf) lo)) ⌝ }
     ensures { λ r. ⌜ Inserted (view (now (buf .entry)) lo) (view (now (buf .exit)) r) n p w x y z ⌝ }
 {
-    if n <= p + p {
-        return above(buf, lo, n, p, w, x, y, z);
-    }
     let at = spare(buf, lo, n);
-    if at == 0 {
-        return above(buf, at, n, p, w, x, y, z);
+    if 0 < at {
+        if p + p < n {
+            return below(buf, at, n, p, w, x, y, z);
+        }
     }
-    below(buf, at, n, p, w, x, y, z)
+    above(buf, at, n, p, w, x, y, z)
 }

@@ -9,78 +9,59 @@ use Rattle.grow.proofs.ends.above.Reads as above-reads
 use Rattle.grow.proofs.ends.below.Reads as below-reads
 use Rattle.grow.proofs.ends.spare.Reads as spare-reads
 
--- src/ends.rt:57:13
-add-if1 : tie.Need-add-if1
-add-if1 c = search needs
-
--- src/ends.rt:58:9
-above-requires : tie.Need-above-requires
-above-requires c κs = search needs
-
--- src/ends.rt:58:9
-same-length : tie.Need-same-length
-same-length c = search needs
-
--- src/ends.rt:58:9
-returns : tie.Need-returns
-returns c =
-    let s = c .before .before .before .before in
-    let a = s .args in
-    inserted-as (same (a .w) (s .fits .w)) (same (a .x) (s .fits .x)) (same (a .y) (s .fits .y))
-    (same (a .z) (s .fits .z)) (c .before .above .ensures)
-
--- src/ends.rt:60:9
+-- src/ends.rt:57:9
 spare-requires : tie.Need-spare-requires
 spare-requires c κs = search needs
 
--- src/ends.rt:62:9
-above-requires-2 : tie.Need-above-requires-2
-above-requires-2 c κs = search needs
+-- src/ends.rt:59:12
+add-if2 : tie.Need-add-if2
+add-if2 c = search needs
 
--- src/ends.rt:62:9
-same-length-2 : tie.Need-same-length-2
-same-length-2 c = search needs
-
--- src/ends.rt:62:9
-returns-2 : tie.Need-returns-2
-returns-2 c =
-    let m = c .before .before .before .before .before in
-    let s = m .before .before .before in
-    let a = s .args in
-    slid-inserted _ _ _ (a .n) (a .p) (a .w) (a .x) (a .y) (a .z) (m .spare .ensures)
-    (inserted-as (same (a .w) (s .fits .w)) (same (a .x) (s .fits .x)) (same (a .y) (s .fits .y))
-    (same (a .z) (s .fits .z)) (c .before .above2 .ensures))
-
--- src/ends.rt:64:5
+-- src/ends.rt:60:13
 below-requires : tie.Need-below-requires
 below-requires c κs = search needs
 
--- src/ends.rt:44:1
-same-length-3 : tie.Need-same-length-3
-same-length-3 c = search needs
+-- src/ends.rt:60:13
+same-length : tie.Need-same-length
+same-length c = search needs
 
--- src/ends.rt:44:1
-returns-3 : tie.Need-returns-3
-returns-3 c =
-    let m = c .before .before .before .before .before in
-    let s = m .before .before .before in
+-- src/ends.rt:60:13
+returns : tie.Need-returns
+returns c =
+    let m = c .before .before .before .before .before .before in
+    let s = m .before .before in
     let a = s .args in
     slid-inserted _ _ _ (a .n) (a .p) (a .w) (a .x) (a .y) (a .z) (m .spare .ensures)
     (inserted-as (same (a .w) (s .fits .w)) (same (a .x) (s .fits .x)) (same (a .y) (s .fits .y))
     (same (a .z) (s .fits .z)) (c .before .below .ensures))
 
+-- src/ends.rt:63:5
+above-requires : tie.Need-above-requires
+above-requires c κs = search needs
+
+-- src/ends.rt:44:1
+same-length-2 : tie.Need-same-length-2
+same-length-2 c = search needs
+
+-- src/ends.rt:44:1
+returns-2 : tie.Need-returns-2
+returns-2 c =
+    let m = c .before .before .before .before .before in
+    let s = m .before .before in
+    let a = s .args in
+    slid-inserted _ _ _ (a .n) (a .p) (a .w) (a .x) (a .y) (a .z) (m .spare .ensures)
+    (inserted-as (same (a .w) (s .fits .w)) (same (a .x) (s .fits .x)) (same (a .y) (s .fits .y))
+    (same (a .z) (s .fits .z)) (c .before .above .ensures))
+
 pub insert-spec : {M : Type 1} → statement M
 insert-spec =
     tie.close
     (tie.spec
-    add-if1
-    above-requires
+    spare-requires
+    add-if2
+    below-requires
     same-length
     returns
-    spare-requires
-    above-requires-2
+    above-requires
     same-length-2
-    returns-2
-    below-requires
-    same-length-3
-    returns-3)
+    returns-2)
