@@ -1,40 +1,50 @@
-//! The median time of a piece of work.
+//! Pieces of work measured side by side: batches of each by turns, so that what slows the machine slows all of them.
 use std::time::Instant;
 
-/// Nanoseconds for each of `units` units of the work: the median of several batches.
-pub fn each(units: usize, mut work: impl FnMut()) -> f64 {
-    let mut turns = 1;
-    loop {
-        let begun = Instant::now();
-        (0..turns).for_each(|_| work());
-        if begun.elapsed().as_micros() > 2000 {
-            break;
+/// A piece of work.
+pub type Work<'a> = &'a mut dyn FnMut();
+
+const BATCHES: usize = 31;
+
+/// A line of a table: what, then the Rust's time and ours, ratios first, over 1 where ours is faster. The first piece of
+/// work is the Rust's; a time is the median of its batches in nanoseconds for each of `units` units.
+pub fn race<const N: usize>(what: &str, units: usize, places: usize, mut works: [Work; N]) {
+    let turns: Vec<usize> = works.iter_mut().map(|work| turns(work)).collect();
+    let mut times = vec![Vec::new(); N];
+    for _ in 0..BATCHES {
+        for (i, work) in works.iter_mut().enumerate() {
+            times[i].push(batch(work, turns[i]) / (turns[i] * units) as f64);
         }
-        turns *= 2;
     }
-    let mut times: Vec<f64> = (0..21)
-        .map(|_| {
-            let begun = Instant::now();
-            (0..turns).for_each(|_| work());
-            begun.elapsed().as_nanos() as f64 / (turns * units) as f64
-        })
+    let medians: Vec<f64> = times.into_iter().map(median).collect();
+    let ratios: Vec<String> = medians[1..]
+        .iter()
+        .map(|ours| format!("{:.1}", medians[0] / ours))
         .collect();
-    times.sort_by(f64::total_cmp);
-    times[times.len() / 2]
-}
-
-/// A line of a table: the ratio first, over 1 where ours is faster.
-pub fn line(what: &str, rust: f64, ours: &[f64]) {
-    line_by(what, rust, ours, 0);
-}
-
-/// The same with so many places after the point.
-pub fn line_by(what: &str, rust: f64, ours: &[f64], places: usize) {
-    let ratios: Vec<String> = ours.iter().map(|o| format!("{:.1}", rust / o)).collect();
-    let times: Vec<String> = ours.iter().map(|o| format!("{o:.places$}")).collect();
+    let times: Vec<String> = medians.iter().map(|t| format!("{t:.places$}")).collect();
     println!(
-        "| {} | {what} | {rust:.places$} | {} |",
+        "| {} | {what} | {} |",
         ratios.join(" | "),
         times.join(" | ")
     );
+}
+
+/// How many turns make a batch of two milliseconds or more.
+fn turns(work: &mut Work) -> usize {
+    let mut turns = 1;
+    while batch(work, turns) < 2e6 {
+        turns *= 2;
+    }
+    turns
+}
+
+fn batch(work: &mut Work, turns: usize) -> f64 {
+    let begun = Instant::now();
+    (0..turns).for_each(|_| work());
+    begun.elapsed().as_nanos() as f64
+}
+
+fn median(mut times: Vec<f64>) -> f64 {
+    times.sort_by(f64::total_cmp);
+    times[times.len() / 2]
 }

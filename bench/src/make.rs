@@ -93,13 +93,14 @@ pub fn build() {
         ];
         for (name, list) in shapes {
             let tuples = KTuples::of(&strings(&list));
-            let rust = clock::each(1, || {
+            let mut rust = || {
                 black_box(LookaheadDFA::from_k_tuples(&tuples, 1));
-            });
-            let mine = clock::each(1, || {
+            };
+            let mut mine = || {
                 black_box(ours::build(1, &list.tokens, &list.lengths, &mut out));
-            });
-            clock::line(&format!("{name}, {states} states"), rust, &[mine]);
+            };
+            let what = format!("{name}, {states} states");
+            clock::race(&what, 1, 0, [&mut rust, &mut mine]);
         }
     }
 }
@@ -152,13 +153,14 @@ pub fn unite() {
             ),
         ] {
             let (first, second) = (ruled(lent(x)), ruled(lent(y)));
-            let rust = clock::each(1, || {
+            let mut rust = || {
                 let _ = black_box(first.union(&second));
-            });
-            let mine = clock::each(1, || {
+            };
+            let mut mine = || {
                 black_box(ours::unite(0, lent(x), lent(y), &mut out));
-            });
-            clock::line(&format!("{name}, {states} states together"), rust, &[mine]);
+            };
+            let what = format!("{name}, {states} states together");
+            clock::race(&what, 1, 0, [&mut rust, &mut mine]);
         }
     }
 }
@@ -195,6 +197,7 @@ pub fn shrink() {
     println!("|---|---|---|---|---|---|");
     let mut dice = Dice::new(5);
     let mut out = vec![0; 16384];
+    let mut other = vec![0; 16384];
     for states in [10, 100, 500, 1000] {
         let trie = tree(&mut dice, states, 40, &[1]);
         let narrow = tree(&mut dice, states, 2, &[1]);
@@ -230,15 +233,17 @@ pub fn shrink() {
             ("comb of strings of 16, one production", comb),
         ] {
             let dfa = ruled(lent(&t));
-            let rust = clock::each(1, || {
+            let mut rust = || {
                 black_box(Compiled::from_lookahead_dfa(&dfa));
-            });
-            let mine = [0, 1].map(|mode| {
-                clock::each(1, || {
-                    black_box(ours::shrink(mode, lent(&t), &mut out));
-                })
-            });
-            clock::line(&format!("{name}, {states} states"), rust, &mine);
+            };
+            let mut archive = || {
+                black_box(ours::shrink(0, lent(&t), &mut out));
+            };
+            let mut intake = || {
+                black_box(ours::shrink(1, lent(&t), &mut other));
+            };
+            let what = format!("{name}, {states} states");
+            clock::race(&what, 1, 0, [&mut rust, &mut archive, &mut intake]);
         }
     }
 }

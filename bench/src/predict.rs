@@ -73,44 +73,48 @@ impl Set {
     }
 }
 
-/// Nanoseconds of the Rust's `eval` for a window, its streams made beforehand.
-fn evals(sets: &[Set]) -> f64 {
+/// A call for each window.
+fn each(sets: &[Set], call: impl Fn(Lent, usize, &[u16]) -> ours::Answer) {
+    for s in sets {
+        for w in &s.windows {
+            black_box(call(s.lent(), s.table.k, w));
+        }
+    }
+}
+
+/// The Rust's `eval`, its streams made beforehand; the walk over all windows of a table in one call; a call for each.
+fn of_size(dice: &mut Dice, rows: usize, k: usize) {
+    let sets: Vec<_> = (0..TABLES).map(|_| Set::new(dice, rows, k)).collect();
     let mut asked: Vec<_> = sets
         .iter()
         .map(|s| {
-            let streams = s.windows.iter().map(|w| TokenStream::lent(w, s.table.k));
+            let streams = s.windows.iter().map(|w| TokenStream::lent(w, k));
             (Walker::new(s.lent()), streams.collect::<Vec<_>>())
         })
         .collect();
-    clock::each(TABLES * WINDOWS, || {
+    let mut evals = || {
         for (walker, streams) in &mut asked {
             for stream in streams {
                 let _ = black_box(walker.0.eval(stream, 0));
             }
         }
-    })
-}
-
-/// The walk over all windows of a table in one call.
-fn walks(sets: &[Set]) -> f64 {
+    };
+    // SAFETY of both calls on checked tables: each table passed, as asserted when it was made.
     let mut answers = [0; WINDOWS];
-    clock::each(TABLES * WINDOWS, || {
-        for s in sets {
-            // SAFETY: the table passed, as asserted when it was made.
+    let mut walks = || {
+        for s in &sets {
             unsafe { ours::windows(s.lent(), &s.all, &mut answers) };
         }
-    })
-}
-
-/// A call for each window.
-fn calls(sets: &[Set], call: impl Fn(Lent, usize, &[u16]) -> ours::Answer) -> f64 {
-    clock::each(TABLES * WINDOWS, || {
-        for s in sets {
-            for w in &s.windows {
-                black_box(call(s.lent(), s.table.k, w));
-            }
-        }
-    })
+    };
+    let mut checked = || {
+        each(&sets, |t, k, w| unsafe {
+            ours::predict_checked(0, t, k, w)
+        })
+    };
+    let mut public = || each(&sets, |t, k, w| ours::predict(0, t, k, w));
+    let what = format!("{rows} rows, k {k}");
+    let works: [clock::Work; 4] = [&mut evals, &mut walks, &mut checked, &mut public];
+    clock::race(&what, TABLES * WINDOWS, 0, works);
 }
 
 pub fn run() {
@@ -123,15 +127,7 @@ pub fn run() {
     let small = [(2, 1), (5, 1), (10, 1), (10, 2), (20, 2), (30, 3)];
     let large = [100, 500, 1000].map(|rows| [(rows, 1), (rows, 4), (rows, 16)]);
     for (rows, k) in small.into_iter().chain(large.into_iter().flatten()) {
-        let sets: Vec<_> = (0..TABLES).map(|_| Set::new(&mut dice, rows, k)).collect();
-        // SAFETY: the tables passed, as asserted when they were made.
-        let checked = |t: Lent, k, w: &[u16]| unsafe { ours::predict_checked(0, t, k, w) };
-        let ours = [
-            walks(&sets),
-            calls(&sets, checked),
-            calls(&sets, |t, k, w| ours::predict(0, t, k, w)),
-        ];
-        clock::line(&format!("{rows} rows, k {k}"), evals(&sets), &ours);
+        of_size(&mut dice, rows, k);
     }
 }
 
@@ -151,16 +147,17 @@ pub fn explain() {
         let walker = Walker::new(lent);
         let streams: Vec<_> = windows.iter().map(|w| TokenStream::lent(w, k)).collect();
         let names = parol_runtime::lexer::terminal_names();
-        let rust = clock::each(64, || {
+        let mut rust = || {
             for s in &streams {
                 let _ = black_box(walker.0.build_error(names, s));
             }
-        });
-        let mine = clock::each(64, || {
+        };
+        let mut mine = || {
             for w in &windows {
                 black_box(ours::explain(lent, w));
             }
-        });
-        clock::line(&format!("{rows} rows, k {k}"), rust, &[mine]);
+        };
+        let what = format!("{rows} rows, k {k}");
+        clock::race(&what, 64, 0, [&mut rust, &mut mine]);
     }
 }

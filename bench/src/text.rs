@@ -49,19 +49,21 @@ pub fn run() {
         assert_eq!(&bytes[..text.len()], text.as_bytes());
         assert_eq!(ours::text_in(text.as_bytes(), &mut numbers).0, 0);
         assert_eq!(&numbers[..rows.len()], &rows[..]);
-        let rust = clock::each(text.len(), || {
+        let mut rust = || {
             black_box(plain_out(-1, 2, &rows));
-        });
-        let mine = clock::each(text.len(), || {
+        };
+        let mut mine = || {
             black_box(ours::text_out(lent, &mut bytes));
-        });
-        clock::line_by(&format!("text out, {count} rows"), rust, &[mine], 2);
-        let rust = clock::each(text.len(), || {
+        };
+        let what = format!("text out, {count} rows");
+        clock::race(&what, text.len(), 2, [&mut rust, &mut mine]);
+        let mut rust = || {
             black_box(plain_in(&text));
-        });
-        let mine = clock::each(text.len(), || {
+        };
+        let mut mine = || {
             black_box(ours::text_in(text.as_bytes(), &mut numbers));
-        });
-        clock::line_by(&format!("text in, {count} rows"), rust, &[mine], 2);
+        };
+        let what = format!("text in, {count} rows");
+        clock::race(&what, text.len(), 2, [&mut rust, &mut mine]);
     }
 }
