@@ -105,6 +105,35 @@ pub fn build() {
     }
 }
 
+/// The tree that the Rust builds of a list.
+fn built(list: &Strings, production: usize) -> Table {
+    let tuples = KTuples::of(&strings(list));
+    flat(&LookaheadDFA::from_k_tuples(&tuples, production))
+}
+
+/// Pairs of trees, with so many states together.
+fn pairs(dice: &mut Dice, states: usize) -> [(&'static str, Table, Table); 5] {
+    let half = states / 2 + 1;
+    let a = built(&random_list(dice, half), 1);
+    let mut other = random_list(dice, half);
+    other.tokens.iter_mut().for_each(|t| *t += 100);
+    let b = built(&other, 2);
+    let long = built(&long_list(half), 1);
+    let falls = built(&single_list(half, fall), 1);
+    let mut low = falls.clone();
+    low.rows.chunks_exact_mut(4).for_each(|r| r[1] -= 950);
+    let ends = built(&single_list(half, close_in), 1);
+    let below = "single tokens, the second's all below the first's";
+    let amid = "single tokens, the second's all amid the first's";
+    [
+        ("no state in common", a.clone(), b),
+        ("a tree with itself", a.clone(), a),
+        ("strings of 16 with themselves", long.clone(), long),
+        (below, falls.clone(), low),
+        (amid, ends, falls),
+    ]
+}
+
 pub fn unite() {
     println!("\n## unite, archive, nanoseconds a call (the Rust clones the first)\n");
     println!("| ratio | trees | the Rust | ours |");
@@ -112,52 +141,13 @@ pub fn unite() {
     let mut dice = Dice::new(4);
     let mut out = vec![0; 16384];
     for states in [10, 100, 500, 1000] {
-        let half = states / 2 + 1;
-        let a = flat(&LookaheadDFA::from_k_tuples(
-            &KTuples::of(&strings(&random_list(&mut dice, half))),
-            1,
-        ));
-        let mut other = random_list(&mut dice, half);
-        other.tokens.iter_mut().for_each(|t| *t += 100);
-        let b = flat(&LookaheadDFA::from_k_tuples(
-            &KTuples::of(&strings(&other)),
-            2,
-        ));
-        let long = flat(&LookaheadDFA::from_k_tuples(
-            &KTuples::of(&strings(&long_list(half))),
-            1,
-        ));
-        let falls = flat(&LookaheadDFA::from_k_tuples(
-            &KTuples::of(&strings(&single_list(half, fall))),
-            1,
-        ));
-        let mut low = falls.clone();
-        low.rows.chunks_exact_mut(4).for_each(|r| r[1] -= 950);
-        let ends = flat(&LookaheadDFA::from_k_tuples(
-            &KTuples::of(&strings(&single_list(half, close_in))),
-            1,
-        ));
-        for (name, x, y) in [
-            ("no state in common", &a, &b),
-            ("a tree with itself", &a, &a),
-            ("strings of 16 with themselves", &long, &long),
-            (
-                "single tokens, the second's all below the first's",
-                &falls,
-                &low,
-            ),
-            (
-                "single tokens, the second's all amid the first's",
-                &ends,
-                &falls,
-            ),
-        ] {
-            let (first, second) = (ruled(lent(x)), ruled(lent(y)));
+        for (name, x, y) in pairs(&mut dice, states) {
+            let (first, second) = (ruled(lent(&x)), ruled(lent(&y)));
             let mut rust = || {
                 let _ = black_box(first.union(&second));
             };
             let mut mine = || {
-                black_box(ours::unite(0, lent(x), lent(y), &mut out));
+                black_box(ours::unite(0, lent(&x), lent(&y), &mut out));
             };
             let what = format!("{name}, {states} states together");
             clock::race(&what, 1, 0, [&mut rust, &mut mine]);
@@ -191,6 +181,29 @@ fn leaves(mut t: Table, production: impl Fn(i32) -> i32) -> Table {
     t
 }
 
+/// Trees of several shapes, with so many states.
+fn shapes(dice: &mut Dice, states: usize) -> [(&'static str, Table); 7] {
+    let trie = tree(dice, states, 40, &[1]);
+    let narrow = tree(dice, states, 2, &[1]);
+    let mut all = trie.clone();
+    all.rows.chunks_exact_mut(4).for_each(|r| r[3] = r[2]);
+    let eight = leaves(trie.clone(), |s| s % 8);
+    let one = leaves(trie.clone(), |_| 1);
+    let own = leaves(trie, |s| s);
+    let two = leaves(narrow, |_| 1);
+    let star = built(&single_list(states, rise), 1);
+    let comb = built(&long_list(states), 1);
+    [
+        ("random trie, 8 productions at leaves", eight),
+        ("random trie, all leaves one production", one),
+        ("random trie, every leaf its own production", own),
+        ("every state accepts, its own production", all),
+        ("over 2 terminals, leaves one production", two),
+        ("star, one production", star),
+        ("comb of strings of 16, one production", comb),
+    ]
+}
+
 pub fn shrink() {
     println!("\n## shrink, nanoseconds a call\n");
     println!("| ratio, archive | ratio, intake | tree | the Rust | archive | intake |");
@@ -199,39 +212,7 @@ pub fn shrink() {
     let mut out = vec![0; 16384];
     let mut other = vec![0; 16384];
     for states in [10, 100, 500, 1000] {
-        let trie = tree(&mut dice, states, 40, &[1]);
-        let narrow = tree(&mut dice, states, 2, &[1]);
-        let comb = flat(&LookaheadDFA::from_k_tuples(
-            &KTuples::of(&strings(&long_list(states))),
-            1,
-        ));
-        let star = flat(&LookaheadDFA::from_k_tuples(
-            &KTuples::of(&strings(&single_list(states, rise))),
-            1,
-        ));
-        let mut all = trie.clone();
-        all.rows.chunks_exact_mut(4).for_each(|r| r[3] = r[2]);
-        for (name, t) in [
-            (
-                "random trie, 8 productions at leaves",
-                leaves(trie.clone(), |s| s % 8),
-            ),
-            (
-                "random trie, all leaves one production",
-                leaves(trie.clone(), |_| 1),
-            ),
-            (
-                "random trie, every leaf its own production",
-                leaves(trie.clone(), |s| s),
-            ),
-            ("every state accepts, its own production", all),
-            (
-                "over 2 terminals, leaves one production",
-                leaves(narrow, |_| 1),
-            ),
-            ("star, one production", star),
-            ("comb of strings of 16, one production", comb),
-        ] {
+        for (name, t) in shapes(&mut dice, states) {
             let dfa = ruled(lent(&t));
             let mut rust = || {
                 black_box(Compiled::from_lookahead_dfa(&dfa));
