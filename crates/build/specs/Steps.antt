@@ -57,15 +57,17 @@ pub record Added (old new : List ℤ) (n m s q : ℕ) (σ : List ℕ) : Type 0 w
   pub state : s ≡ walk-in (standing old n 0) σ .state
   pub rows : held new m ≡ map (paint s (some q)) (walk-in (standing old n 0) σ .rows)
 
+-- The string is added, or a 1,024th row would come.
 abbrev pub Adds : List ℤ → List ℤ → ℕ → ℕ → List ℕ → Step → Type 0
 Adds old new n q σ (On lo m s at) = Added old (view new lo) n m (s .0) q σ
 Adds old new n q σ Full = 1023 < length (walk-in (standing old n 0) σ .rows)
 
--- The code of prod0 before any string, and after a string that ends in the state s.
+-- The code of prod0 before any string.
 pub record Opens (lengths : List ℕ) (q r : ℕ) : Type 0 where
   pub small : r ≤ 65536
   pub is : uncoded r ≡ cond (eqb (length lengths) 0) (some q) none
 
+-- After a string that ends in the state s.
 pub record Recodes (code s q r : ℕ) : Type 0 where
   pub small : r ≤ 65536
   pub is : uncoded r ≡ cond (eqb s 0) (some q) (uncoded code)
@@ -76,6 +78,7 @@ pub record Holds (new : List ℤ) (n code k : ℕ) (t : Table) : Type 0 where
   pub small : code ≤ 65536
   pub is : t ≡ record { prod0 = uncoded code; k = k; rows = held new n }
 
+-- The answer of all strings.
 abbrev pub Grows : List ℤ → Table → declared.Table → Type 0
 Grows new t (table.Rows lo n code k) = Holds (view new lo) n code k t
 Grows new t table.Full = 1023 < length (t .rows)

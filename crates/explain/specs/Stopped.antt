@@ -8,6 +8,7 @@ use Rattle.paper.specs.Explain as paper
 use Rattle.explain.specs.declared.Stop.{Stop}
 use Rattle.explain.specs.declared.Part.{Part}
 
+-- Where the walk stopped, as the paper says it.
 abbrev pub stopped : Stop → paper.Stop
 stopped s = record { state = s .state .0; matched = s .matched; left-over = s .more }
 

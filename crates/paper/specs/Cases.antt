@@ -57,6 +57,7 @@ pub data Case : Type 0 where
   defines : List Opening → List ℕ → Ruling ℕ → Case
   prints : String → String → Case
 
+-- What comes of a case.
 pub data Outcome : Type 0 where
   making : Ruling Made → Outcome
   prediction : Ruling Chosen → Outcome
@@ -95,9 +96,11 @@ chosen q n = accept (record { production = q; entered = n })
 abbrev A : Asked
 A = list 1 ((5 ∷ []) ∷ (7 ∷ []) ∷ [])
 
+-- B of the document.
 abbrev B : Asked
 B = list 2 ((5 ∷ 6 ∷ []) ∷ [])
 
+-- T of the document.
 abbrev T : Asked
 T = united Archive B A
 

@@ -17,10 +17,12 @@ use Rattle.predict.specs.declared.Reached.{Reached}
 use Rattle.predict.specs.declared.Reached.the-variants.{Nothing, Accepting}
 use Rattle.predict.specs.declared.Walk.{Walk}
 
+-- What was reached, as the paper says it.
 abbrev pub reached : Reached → Option ℕ
 reached Nothing = none
 reached (Accepting q) = some (q .0)
 
+-- The walk, as the paper says it.
 abbrev pub seen : Walk → paper.Walk
 seen w = record { state = w .state .0; entered = w .entered; last = reached (w .last) }
 

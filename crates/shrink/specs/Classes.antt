@@ -15,6 +15,7 @@ pub record Tells (A : Type 0) (r : Bool) : Type 0 where
   pub yes : r ≡ true → A
   pub no : r ≡ false → A → ⊥
 
+-- s is a state of the table.
 abbrev pub State : Table → ℕ → Type 0
 State t s = List·Memᴰ s (states (t .rows))
 

@@ -21,6 +21,7 @@ coded p ns = record { prod0 = uncoded p; k = 0; rows = rows-in ns }
 abbrev pub mark-in : List ℕ → ℕ → ℕ
 mark-in class s = getD class s 0
 
+-- A state's production.
 abbrev pub production-at : Table → ℕ → Option ℕ
 production-at t s = production-of (t .prod0) (t .rows) s
 

@@ -10,6 +10,7 @@ use borrow.Author.Tests.{ne-eqb, le-ltb, eqb-true, not-false}
 use lib.Dec.{eqb, ltb}
 use lib.ListN.{length}
 use lib.IntN.{ℤ, pos, negsuc}
+use Rattle.laws.proofs.RowNumbers.{accepting-signed}
 use Rattle.paper.specs.Words.{bytes}
 use Rattle.paper.specs.Rows.{Row, table, rows-in, natural, accepting, signed}
 use Rattle.paper.specs.Answers.{accept}
@@ -42,7 +43,6 @@ use Rattle.rows.proofs.Fits.{Fit, fit}
 use Rattle.text.proofs.Numbers.{digit-of}
 use Rattle.text.proofs.Decimal.{Digits, are-digits}
 use Rattle.text.proofs.Kept.{row-kept}
-use Rattle.text.proofs.Tallied.{signed-back}
 use Rattle.text.proofs.Out.{Ranged, in-range, in-slice}
 use Rattle.text.proofs.Parted.{line-read}
 use Rattle.text.proofs.Reread.{reread-head, reread-row}
@@ -105,7 +105,7 @@ row-reread : (f t g p : ℤ) →
     Fit (record { from = natural f; terminal = natural t; to = natural g; production = accepting p }) →
     read row-form (write row-form (f ∷ t ∷ g ∷ p ∷ [])) ≡ some (f ∷ t ∷ g ∷ p ∷ [])
 row-reread f t g p h =
-    let c : code (accepting (signed (accepting p))) ≤ 65536 = rw (signed-back (accepting p)) (h .production) in
+    let c : code (accepting (signed (accepting p))) ≤ 65536 = rw (accepting-signed (accepting p)) (h .production) in
     let r = reread-row (natural f) (natural t) (natural g) (signed (accepting p)) (omega (arith, h .from))
     (omega (arith, h .terminal)) (omega (arith, h .to)) c in
     subst (λ (x : List ℤ). read row-form (write row-form x) ≡ some x) (row-kept f t g p h) r

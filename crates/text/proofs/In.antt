@@ -8,6 +8,7 @@ use borrow.Author.Tests.{lt-ltb, le-ltb, leb-true}
 use lib.Dec.{ltb, leb}
 use lib.ListN.{length, drop}
 use lib.IntN.{ℤ}
+use Rattle.laws.proofs.RowNumbers.{accepting-signed}
 use Rattle.paper.specs.Rows.{Table, table, rows-in, numbers, accepting, signed}
 use Rattle.paper.specs.Answers.{Ruling, accept, refuse, then, Reads, number, detail}
 use Rattle.paper.specs.Checks.{first, every, row-fits, rising, production-fits, little-room, plain, range, order}
@@ -27,7 +28,6 @@ use Rattle.text.proofs.Put.{put-front}
 use Rattle.text.proofs.Kept.{numbers-kept}
 use Rattle.text.proofs.Fours.{fours}
 use Rattle.text.proofs.Lined.{code-back}
-use Rattle.text.proofs.Tallied.{signed-back}
 use Rattle.text.proofs.Climbs.{tally-rows, tally-fits, tally-rising}
 use Rattle.text.proofs.Parted.{head-rows, head-bad}
 
@@ -109,7 +109,7 @@ module _ (t : List ℕ) (room : ℕ) where
           unfolding range
           range-is =
               let q : production-fits (accepting (signed (uncoded p))) ≡ leb p 65536 =
-              ap production-fits (signed-back (uncoded p))
+              ap production-fits (accepting-signed (uncoded p))
               ∙ sym (code-fits (uncoded p))
               ∙ ap (λ (x : ℕ). leb x 65536) (sym (code-back p)) in
               rw (q, fits)
@@ -158,6 +158,6 @@ module _ (t : List ℕ) (room : ℕ) where
                 let kept : numbers (rows-in (numbers-from t n)) ≡ numbers-from t n =
                 numbers-kept (length (lines (drop n t))) (numbers-from t n) whole all-fit in
                 record {
-                  says = rw (ruled, zs, count, signed-back (uncoded p));
+                  says = rw (ruled, zs, count, accepting-signed (uncoded p));
                   holds = rw (ruled, kept) (ns ∙ put-front old (numbers-from t n));
                 }

@@ -1,11 +1,11 @@
 -- The pass over rows, one line after another. Assumes nothing.
 use Prim.Native.Nat.{ℕ, _+_, _<_, _≤_}
 use mathlib.Core.Path.{_≡_, refl, ap, _∙_}
-use mathlib.Core.Option.{Option, none, some}
 use mathlib.Core.List.{List, [], _∷_, _++_}
 use lib.IntN.{ℤ}
 use lib.ListN.{length}
-use Rattle.paper.specs.Rows.{Row, accepting, signed, rows-in}
+use Rattle.laws.proofs.RowNumbers.{accepting-signed}
+use Rattle.paper.specs.Rows.{Row, rows-in}
 use Rattle.paper.specs.Answers.{Ruling, accept, refuse, then}
 use Rattle.rows.specs.Places.{uncoded}
 use Rattle.text.specs.declared.reading.RowLine.the-variants as row-line
@@ -16,13 +16,9 @@ use Rattle.text.specs.Tally.{rows-read, tallied, tally, tally-from}
 use Rattle.text.proofs.Parted.{rows-end, rows-bad, rows-row}
 use Rattle.text.proofs.Small.{row-from-at}
 
-pub signed-back : (p : Option ℕ) → accepting (signed p) ≡ p
-signed-back none = refl
-signed-back (some q) = refl
-
 -- a row's numbers are the row
 pub row-back : (f o g c : ℕ) (ns : List ℤ) → rows-in (row-numbers (row f o g c) ++ ns) ≡ row f o g c ∷ rows-in ns
-row-back f o g c ns = rw (signed-back (uncoded c))
+row-back f o g c ns = rw (accepting-signed (uncoded c))
 
 -- the rows from a place on, when a row stands there
 module _ (t : List ℕ) (at f o g c n : ℕ) (h : at < length t) (e : row-from t at ≡ row-line.Row f o g c n) where

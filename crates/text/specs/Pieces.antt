@@ -10,6 +10,7 @@ use Rattle.paper.specs.Text.{past, in-form, value, digit-count}
 use Rattle.text.specs.declared.pieces.Number.{Number}
 use Rattle.text.specs.declared.pieces.Number.the-variants.{Is, Bad}
 
+-- Whether there is one.
 abbrev pub is-some : {A : Type 0} → Option A → Bool
 is-some none = false
 is-some (some a) = true

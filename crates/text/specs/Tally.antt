@@ -28,6 +28,7 @@ tallied s r = record {
   least = key r + 1;
 }
 
+-- All rows, one after the other.
 unfoldable pub tally : Tally → List Row → Tally
 tally s [] = s
 tally s (r ∷ rs) = tally (tallied s r) rs
@@ -40,6 +41,7 @@ start = record { rows = 0; fits = true; rising = true; least = 0 }
 unfoldable pub tally-from : List ℕ → ℕ → Tally → Ruling Tally
 tally-from t at s = then (rows-read t at) (λ ns. accept (tally s (rows-in ns)))
 
+-- The ruling that the pass states.
 abbrev pub scanned : Pass → Ruling Tally
 scanned (Rows s) = accept s
 scanned (Bad at) = refuse 13 (at ∷ [])
@@ -49,6 +51,7 @@ abbrev pub taken : Ruling (List ℤ) → List ℤ
 taken (accept ns) = ns
 taken (refuse n d) = []
 
+-- The same, by the text and the place.
 unfoldable pub numbers-from : List ℕ → ℕ → List ℤ
 numbers-from t at = taken (rows-read t at)
 

@@ -21,6 +21,7 @@ unfoldable pub looked : Mode → Option ℕ → Option Row → Ruling ℕ
 looked mode q none = accept 65535
 looked mode q (some x) = then (taken mode (x .production) q) (λ _. accept (x .to))
 
+-- The answer states the ruling.
 abbrev pub Looks : Ruling ℕ → Look → Type 0
 Looks g (look.Clash p q) = g ≡ refuse 8 (p .0 ∷ q .0 ∷ [])
 Looks g (look.Match v) = g ≡ accept v

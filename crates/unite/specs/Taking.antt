@@ -56,10 +56,11 @@ Takes new g (took.Row lo n s) = Stands (view new lo) n (s .0) g
 Takes new g (took.Clash p q) = g ≡ refuse 8 (p .0 ∷ q .0 ∷ [])
 Takes new g took.Full = Over g
 
--- The row is none, or the row x.
+-- The row is not found.
 abbrev pub Adds : List ℤ → List Row → ℕ → ℕ → Option ℕ → Took → Type 0
 Adds new rs s t q r = (mode : Mode) → Takes new (taking mode rs s t q none) r
 
+-- The row is found, as x.
 abbrev pub Matches : Mode → List ℤ → List Row → Option ℕ → Row → Took → Type 0
 Matches mode new rs q x r = (s t : ℕ) → Takes new (taking mode rs s t q (some x)) r
 
@@ -74,6 +75,7 @@ pub record Hit (buf : List ℤ) (n i code : ℕ) : Type 0 where
 abbrev pub all-rows : Mode → List Row → List Row → Option ℕ → ℕ → Ruling United
 all-rows mode xs ys p k = take-rows mode (so-far p k xs []) ys
 
+-- with some matches;
 pub record Unites (mode : Mode) (xs ys : List Row) (new : List ℤ) (n : ℕ) : Type 0 where
   pub laid : Laid new n
   pub matches : List (ℕ × ℕ)
@@ -91,11 +93,13 @@ pub record Overflows (mode : Mode) (xs ys : List Row) : Type 0 where
 pub record Accepts (mode : Mode) (xs ys : List Row) : Type 0 where
   pub is : (p : Option ℕ) (k : ℕ) → (u : United) × (all-rows mode xs ys p k ≡ accept u)
 
+-- The answer of all rows.
 abbrev pub United-rows : Mode → List Row → List Row → List ℤ → Union → Type 0
 United-rows mode xs ys new (union.Rows lo n) = Unites mode xs ys (view new lo) n
 United-rows mode xs ys new (union.Clash p q) = Clashes mode xs ys (p .0) (q .0)
 United-rows mode xs ys new union.Full = Overflows mode xs ys
 
+-- The answer of the search for a clash.
 abbrev pub Scanned : Mode → List Row → List Row → Scan → Type 0
 Scanned mode xs ys (scan.Clash p q) = Clashes mode xs ys (p .0) (q .0)
 Scanned mode xs ys scan.Free = Accepts mode xs ys
