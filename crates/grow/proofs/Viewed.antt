@@ -9,6 +9,7 @@ use lib.ListN.{length, getD, take, drop, set, length-drop, drop-of-length-le}
 use lib.Seq.{length-take-le, take-all, drop-at, drop-drop, drop-set-add, getD-drop}
 use lib.IntN.{ℤ, pos}
 use Rattle.paper.specs.Rows.{Row, natural, accepting}
+use Rattle.rows.proofs.Codes.{uncoded-code}
 use Rattle.rows.specs.Places.{row-at, code, uncoded}
 use Rattle.rows.specs.Search.{Finds}
 use Rattle.rows.specs.declared.search.Found.{Found}
@@ -63,10 +64,6 @@ reached buf lo h = omega (arith, length-drop (lo * 4) buf)
 
 pub reach : (buf : List ℤ) (lo n : ℕ) → Laid (view buf lo) n → lo * 4 + n * 4 ≤ length buf
 reach buf lo n l = omega (arith, l .few, l .room, length-drop (lo * 4) buf)
-
-pub uncoded-code : (q : Option ℕ) → uncoded (code q) ≡ q
-uncoded-code none = refl
-uncoded-code (some q) = refl
 
 module _ (buf : List ℤ) (lo n i : ℕ) (l : Laid (view buf lo) n) (h : i < n) where
   held-fit : i < length (take (n * 4) (view buf lo)) / 4

@@ -1,4 +1,5 @@
 pub mod Signed
+pub mod Codes
 pub mod Rest
 pub mod Fits
 pub mod Keys

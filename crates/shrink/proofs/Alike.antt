@@ -17,7 +17,7 @@ use Rattle.merging.specs.Marks.{compared}
 use Rattle.shrink.specs.Index.{leaves}
 use Rattle.shrink.specs.Faces.{coded, counted, like, hash, sign, same-row, rows-alike, production-at}
 use Rattle.shrink.proofs.Begins.{Standing, Walk, stand-end, stand-row}
-use Rattle.shrink.proofs.Productions.{uncoded-code}
+use Rattle.rows.proofs.Codes.{uncoded-code}
 
 -- a number stays below 65,521
 pub hash-small : (h : ℕ) (os : List (ℕ × ℕ)) → h < 65521 → hash h os < 65521

@@ -35,7 +35,7 @@ use Rattle.merging.proofs.Shrunk.{shrunk-by-marks}
 use Rattle.shrink.specs.Faces.{coded, mark-in}
 use Rattle.shrink.specs.Classes.{Classes}
 use Rattle.shrink.specs.Output.{Named, Written, all-rows, Shrunk, Sound}
-use Rattle.shrink.proofs.Productions.{uncoded-code}
+use Rattle.rows.proofs.Codes.{uncoded-code}
 use Rattle.shrink.proofs.Entered.{state-small}
 use Rattle.shrink.proofs.Marking.{class-marks, class-state, class-source}
 use Rattle.shrink.proofs.Writing.{written-front}

@@ -13,18 +13,11 @@ use Rattle.paper.specs.declared.Mode.{Mode}
 use Rattle.paper.specs.declared.Mode.the-variants.{Archive, Intake}
 use Rattle.paper.specs.Rows.{Row, rows-in}
 use Rattle.paper.specs.Shrink.{production-of}
+use Rattle.rows.proofs.Codes.{code-uncoded}
 use Rattle.rows.specs.Places.{code, uncoded}
 use Rattle.ruled.specs.Into.{into-from, Marked}
 use Rattle.ruled.proofs.Firsts.{First, into-row}
 use Rattle.merging.specs.Marks.{compared}
-
-code-uncoded : (p : ℕ) → code (uncoded p) ≡ p
-code-uncoded zero = refl
-code-uncoded (suc p) = refl
-
-pub uncoded-code : (q : Option ℕ) → uncoded (code q) ≡ q
-uncoded-code none = refl
-uncoded-code (some q) = refl
 
 -- no row leads into s
 unentered : (p : Option ℕ) (i : ℕ) (rs : List Row) (s : ℕ) → into-from i rs s ≡ 0 → production-of p rs s ≡ p

@@ -16,7 +16,7 @@ use Rattle.paper.specs.Rows.{Row, signed, numbers}
 use Rattle.rows.specs.Places.{code, uncoded}
 use Rattle.rows.proofs.Signed.{back}
 use Rattle.shrink.specs.Output.{Written}
-use Rattle.shrink.proofs.Productions.{uncoded-code}
+use Rattle.rows.proofs.Codes.{uncoded-code}
 
 pub written-none : (old : List ℤ) (at : ℕ) → Written old old at at []
 written-none old at = record {

@@ -27,7 +27,7 @@ use Rattle.text.proofs.Never.{refuse-accept}
 use Rattle.text.proofs.Put.{put-front}
 use Rattle.text.proofs.Kept.{numbers-kept}
 use Rattle.text.proofs.Fours.{fours}
-use Rattle.text.proofs.Lined.{code-back}
+use Rattle.rows.proofs.Codes.{code-uncoded}
 use Rattle.text.proofs.Climbs.{tally-rows, tally-fits, tally-rising}
 use Rattle.text.proofs.Parted.{head-rows, head-bad}
 
@@ -111,7 +111,7 @@ module _ (t : List ℕ) (room : ℕ) where
               let q : production-fits (accepting (signed (uncoded p))) ≡ leb p 65536 =
               ap production-fits (accepting-signed (uncoded p))
               ∙ sym (code-fits (uncoded p))
-              ∙ ap (λ (x : ℕ). leb x 65536) (sym (code-back p)) in
+              ∙ ap (λ (x : ℕ). leb x 65536) (code-uncoded p) in
               rw (q, fits)
 
           pub in-range : ((leb p 65536 && leb k 16) && s .fits) ≡ false → text-in t room ≡ refuse 2 []

@@ -1,30 +1,22 @@
 -- The lines of a table's rows, as a loop writes them one after another. Assumes nothing.
 use Prim.Native.Nat.{ℕ, zero, suc, _+_, _-_, _*_, _<_, _≤_}
 use mathlib.Core.Path.{_≡_, refl, ap, sym, _∙_}
-use mathlib.Core.Option.{Option, none, some}
 use mathlib.Core.List.{List, [], _++_}
 use native.Mathlib.Omega.{arith}
 use lib.ListN.{length, length-append}
 use lib.IntN.{ℤ}
 use Rattle.paper.specs.Rows.{Row}
 use Rattle.rows.specs.Places.{code, uncoded, row-at, rest}
+use Rattle.rows.proofs.Codes.{uncoded-code}
 use Rattle.rows.proofs.Rest.{rest-cons, rest-end}
 use Rattle.text.specs.Put.{put, Puts}
 use Rattle.text.specs.Written.{row, row-text, rows-text}
 use Rattle.text.proofs.Put.{put-put}
 
-pub uncode : (p : Option ℕ) → uncoded (code p) ≡ p
-uncode none = refl
-uncode (some q) = refl
-
-pub code-back : (c : ℕ) → c ≡ code (uncoded c)
-code-back zero = refl
-code-back (suc n) = refl
-
 -- the row whose numbers were read
 pub row-as : (r : Row) (f t g c : ℕ) → f ≡ r .from → t ≡ r .terminal → g ≡ r .to → c ≡ code (r .production) →
     row f t g c ≡ r
-row-as r f t g c e₁ e₂ e₃ e₄ = rw (e₁, e₂, e₃, e₄, uncode (r .production))
+row-as r f t g c e₁ e₂ e₃ e₄ = rw (e₁, e₂, e₃, e₄, uncoded-code (r .production))
 
 rows-next : (ns : List ℤ) (i : ℕ) → i * 4 + 3 < length ns →
     rows-text (rest ns i) ≡ row-text (row-at ns i) ++ rows-text (rest ns (i + 1))

@@ -24,7 +24,7 @@ use Rattle.rows.proofs.Fits.{code-fits}
 use Rattle.text.specs.Put.{Puts}
 use Rattle.text.specs.Written.{head-text, rows-text}
 use Rattle.text.proofs.Put.{put-front}
-use Rattle.text.proofs.Lined.{uncode}
+use Rattle.rows.proofs.Codes.{uncoded-code}
 use Rattle.text.proofs.Kept.{production-kept, lines-kept}
 
 -- a refusal, and what was written
@@ -99,7 +99,7 @@ pub text-parts : (p : ℤ) (k : ℕ) (ns : List ℤ) (c : ℕ) → Ranged p k ns
 unfolding head-text text
 text-parts p k ns c h e =
     let w = write head-form (p ∷ pos k ∷ []) in
-    let q : signed (uncoded c) ≡ p = rw (e, uncode (accepting p)) (production-kept p (h .prod0)) in
+    let q : signed (uncoded c) ≡ p = rw (e, uncoded-code (accepting p)) (production-kept p (h .prod0)) in
     ap (λ (z : ℤ). (write head-form (z ∷ pos k ∷ []) ++ (10 ∷ [])) ++ rows-text (rows-in ns)) q
     ∙ append-assoc w (10 ∷ []) (rows-text (rows-in ns))
     ∙ ap (λ (x : List ℕ). w ++ (10 ∷ x)) (lines-kept ns (h .rows))

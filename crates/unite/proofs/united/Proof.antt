@@ -7,7 +7,7 @@ use Rattle.rows.specs.Places.{code, uncoded}
 use Rattle.rows.proofs.Signed.{read-passed}
 use Rattle.unite.specs.Met.{Meets}
 use Rattle.unite.specs.declared.meet.Meet.{Meet}
-use Rattle.grow.proofs.Viewed.{uncoded-code}
+use Rattle.rows.proofs.Codes.{uncoded-code}
 use Rattle.unite.proofs.Meets.{meets-as}
 use Rattle.unite.proofs.Passing.{prod0-in, treed}
 use Rattle.unite.proofs.Outcomes.{root-refuses, root-makes}

@@ -9,7 +9,7 @@ use Rattle.rows.proofs.Fits.{Fit, fit}
 use Rattle.text.specs.Put.{put}
 use Rattle.text.specs.Tally.{numbers-from, Ready}
 use Rattle.text.proofs.Put.{put-nil, put-length}
-use Rattle.text.proofs.Lined.{code-back}
+use Rattle.rows.proofs.Codes.{code-uncoded}
 use Rattle.text.proofs.Small.{row-from-at}
 use Rattle.text.proofs.Filled.{no-bad, row-fit, row-room, next-ready, next-put, none-left}
 use Rattle.text.proofs.passes.fill.Statement.{statement}
@@ -68,7 +68,7 @@ put-numbers-requires c κs =
       f .terminal,
       omega (arith, f .to),
       omega
-          (arith, f .production, code-back (v .from .given .0 .1 .1 .1 .0)),
+          (arith, f .production, code-uncoded (v .from .given .0 .1 .1 .1 .0)),
     )
 
 add-i : tie.Need-add-i Inv-loop μ-loop

@@ -1,10 +1,10 @@
 -- `text::passes::row_fits` meets its contract. By the bounds one after another. Assumes nothing.
 use Prim.Native.Nat.{ℕ}
-use mathlib.Core.Path.{ap, _∙_}
+use mathlib.Core.Path.{ap, sym, _∙_}
 use lib.Dec.{leb}
 use Rattle.rows.proofs.Fits.{from-out, terminal-out, to-out, production-left}
 use Rattle.text.specs.Written.{row}
-use Rattle.text.proofs.Lined.{code-back}
+use Rattle.rows.proofs.Codes.{code-uncoded}
 use Rattle.text.proofs.passes.row_fits.Statement.{statement}
 use Rattle.text.proofs.passes.row_fits.Tie as tie
 
@@ -27,7 +27,7 @@ returns-3 c =
 returns-4 : tie.Need-returns-4
 returns-4 c =
     let a = c .before .before .before .args in
-    ap (λ (n : ℕ). leb n 65536) (code-back (a .code))
+    ap (λ (n : ℕ). leb n 65536) (sym (code-uncoded (a .code)))
     ∙ production-left (row (a .from) (a .on) (a .to) (a .code)) (c .before .before .if1 .left) (c .before .if2 .left)
     (c .if3 .left)
 

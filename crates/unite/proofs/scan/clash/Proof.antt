@@ -8,7 +8,7 @@ use Rattle.rows.specs.Places.{row-at, uncoded}
 use Rattle.rows.proofs.Fits.{Fit}
 use Rattle.unite.specs.Looking.{seek, looked, Looks}
 use Rattle.unite.specs.declared.scan.Look.{Look}
-use Rattle.grow.proofs.Viewed.{uncoded-code}
+use Rattle.rows.proofs.Codes.{uncoded-code}
 use Rattle.unite.proofs.Scanning.{Scanning, scan-begins, scan-ends, scan-fit, scan-clashes, scan-on, few-rows}
 use Rattle.unite.proofs.Scanning.{looks-as}
 use Rattle.unite.proofs.scan.clash.Statement.{statement}

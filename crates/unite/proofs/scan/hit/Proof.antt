@@ -2,7 +2,7 @@ use mathlib.Core.Path.{ap, sym, _∙_}
 use native.Mathlib.Omega.{arith}
 use Rattle.rows.specs.Places.{row-at, uncoded}
 use Rattle.rows.proofs.Bracket.{fit-at}
-use Rattle.grow.proofs.Viewed.{uncoded-code}
+use Rattle.rows.proofs.Codes.{uncoded-code}
 use Rattle.unite.proofs.Looked.{hit-clash, hit-match}
 use borrow.Author.Needs.{needs}
 use Rattle.unite.proofs.scan.hit.Statement.{statement}

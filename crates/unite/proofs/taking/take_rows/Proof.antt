@@ -10,7 +10,7 @@ use Rattle.paper.specs.Unite.{matched}
 use Rattle.rows.specs.Places.{row-at, uncoded}
 use Rattle.rows.proofs.Fits.{Fit}
 use Rattle.grow.specs.Held.{view, held}
-use Rattle.grow.proofs.Viewed.{uncoded-code}
+use Rattle.rows.proofs.Codes.{uncoded-code}
 use Rattle.unite.specs.Taking.{Takes}
 use Rattle.unite.specs.declared.taking.Took.{Took}
 use Rattle.unite.proofs.Rowed.{took-as}
