@@ -3,7 +3,7 @@
 use crate::desk::{Desk, GUARD};
 use crate::model::{ROOM, TEXT_ROOM};
 use crate::part::Part;
-use oracle::make::Strings;
+use oracle::make::{self, Strings};
 use oracle::reading::MODES;
 use oracle::{Lent, Table};
 
@@ -64,6 +64,7 @@ pub fn limits(desk: &mut Desk, part: Part) {
         strings(desk);
         states(desk);
         longest(desk);
+        full(desk);
     }
 }
 
@@ -173,6 +174,27 @@ fn states(desk: &mut Desk) {
         }
         for mode in MODES {
             let _ = desk.shrink(mode, a.lent(), ROOM);
+        }
+    }
+}
+
+/// 1,024 states of plain shapes: one production, one at the last state, one for each, every other, none.
+fn full(desk: &mut Desk) {
+    let productions: [fn(i32) -> i32; 5] = [
+        |_| 1,
+        |to| if to == 1_023 { 1 } else { -1 },
+        |to| to,
+        |to| to % 2 - 1,
+        |_| -1,
+    ];
+    for (_, shape) in make::SHAPES {
+        for production in productions {
+            let table = make::full(shape, production);
+            for mode in MODES {
+                let _ = desk.shrink(mode, table.lent(), ROOM);
+                let _ = desk.unite(mode, table.lent(), table.lent(), ROOM);
+            }
+            let _ = desk.text_out(table.lent(), TEXT_ROOM);
         }
     }
 }

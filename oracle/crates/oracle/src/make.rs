@@ -2,10 +2,12 @@
 
 mod dice;
 mod random;
+mod shapes;
 mod small;
 
 pub use dice::Dice;
 pub use random::{Size, damaged, list, product_list, rising, ruled, tokens, tree};
+pub use shapes::{SHAPES, full};
 pub use small::{lists, ruled_tables, trees, walk_tables};
 
 /// A list of strings as build takes it.

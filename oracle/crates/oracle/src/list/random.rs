@@ -21,6 +21,7 @@ pub fn add(list: &mut List) {
     walks(list);
     damaged(list);
     large(list);
+    full(list);
 }
 
 fn size<'a>(dice: &mut Dice, states: usize, rows: usize) -> Size<'a> {
@@ -174,6 +175,18 @@ fn large(list: &mut List) {
     let tokens = make::tokens(&mut dice, 16, &FEW);
     list.predict(Mode::Archive, wide.lent(), 16, &tokens);
     list.explain(wide.lent(), &tokens);
+}
+
+/// 1,024 states: much merges in both modes, then nothing does.
+fn full(list: &mut List) {
+    for (_, shape) in make::SHAPES {
+        let alike = make::full(shape, |_| 1);
+        for mode in MODES {
+            list.shrink(mode, alike.lent(), ROOM);
+        }
+        let unlike = make::full(shape, |to| to);
+        list.shrink(Mode::Intake, unlike.lent(), ROOM);
+    }
 }
 
 /// 1,024 states and 4,096 rows: four rows from each state, one of them to the next.
