@@ -58,6 +58,16 @@ static void predict(uint16_t first, uint16_t second, uint64_t production, uint64
            (unsigned)answer[1]);
 }
 
+static void predict_batch(void) {
+    static const uint16_t tokens[] = {5, 6, 9, 9, 7, 5};
+    int32_t said[3];
+    size_t refusal = lookahead_batch(LOOKAHEAD_INTAKE, small.prod0, small.k, small.numbers, 4 * small.rows, 2, 3,
+                                     tokens, 6, said, 3, answer);
+    expect(refusal == LOOKAHEAD_ACCEPTED && answer[0] == 3, "the count of answers");
+    expect(said[0] == 2 && said[1] == -LOOKAHEAD_NONE && said[2] == 1, "the answers");
+    printf("5 6, 9 9, 7 5: %d, %d, %d\n", (int)said[0], (int)said[1], (int)said[2]);
+}
+
 static void explain(void) {
     static const uint16_t tokens[] = {5, 9};
     const int32_t *row;
@@ -98,6 +108,7 @@ int main(void) {
     predict(5, 6, 2, 2);
     predict(5, 9, 1, 1);
     predict(9, 5, 1, 1);
+    predict_batch();
     explain();
     write_text();
     refuse();

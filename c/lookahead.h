@@ -17,6 +17,7 @@ extern "C" {
 
 #define LOOKAHEAD_ROOM 16384       /* numbers that an output for rows has at least */
 #define LOOKAHEAD_TEXT_ROOM 262144 /* bytes that an output for text has at least */
+#define LOOKAHEAD_WINDOWS 4096     /* windows that a batch has at most */
 
 #define LOOKAHEAD_ARCHIVE 0u /* as the Rust of parol did, faults included */
 #define LOOKAHEAD_INTAKE 1u  /* by the string lists alone */
@@ -69,10 +70,11 @@ size_t lookahead_check(int32_t prod0, size_t k, const int32_t *rows, size_t rows
 size_t lookahead_predict(uint32_t mode, int32_t prod0, size_t k, const int32_t *rows, size_t rows_len, size_t stream,
                          const uint16_t *tokens, size_t tokens_len, uint64_t answer[4]);
 
-/* Predict for a table that lookahead_check accepts, for callers who predict often; with any other it is undefined.
- * Answer as predict's. Refuses by 9, 10, then 11 or 12. */
-size_t lookahead_predict_checked(uint32_t mode, int32_t prod0, size_t k, const int32_t *rows, size_t rows_len,
-                                 size_t stream, const uint16_t *tokens, size_t tokens_len, uint64_t answer[4]);
+/* Batch: predict for `count` windows of k tokens, one after the other; into `out` each production, or minus the number.
+ * Answer: `count`. Refuses by 1 (also over 4,096 windows, other tokens than count times k, a short `out`), 2, 3, 9. */
+size_t lookahead_batch(uint32_t mode, int32_t prod0, size_t k, const int32_t *rows, size_t rows_len, size_t stream,
+                       size_t count, const uint16_t *tokens, size_t tokens_len, int32_t *out, size_t out_len,
+                       uint64_t answer[4]);
 
 /* Explain, the first call: how many tokens have a row, one after the other.
  * Answer: that count. Refuses by 1, 2, 3. */

@@ -1,13 +1,6 @@
-//! The proved calls, as the static libraries have them.
+//! The proved calls, as the static library has them.
 use lookahead::raw;
 use oracle::Lent;
-
-#[rustfmt::skip]
-unsafe extern "C" {
-    /// The walk alone, in a library of its own.
-    fn measured_windows(prod0: i32, k: usize, rows: *const i32, rows_len: usize, tokens: *const u16, tokens_len: usize,
-        answers: *mut u32, answers_len: usize);
-}
 
 /// The refusal's number (0: accepted) and the values.
 pub type Answer = (usize, [u64; 4]);
@@ -84,41 +77,24 @@ pub fn predict(mode: u32, t: Lent, stream: usize, tokens: &[u16]) -> Answer {
     })
 }
 
-/// # Safety
-/// The table has passed the checks 1 to 3: `predict` did not refuse it by 1, 2 or 3.
-pub unsafe fn predict_checked(mode: u32, t: Lent, stream: usize, tokens: &[u16]) -> Answer {
+/// Windows of k tokens one after the other, as many as `out` has room for, in archive mode.
+pub fn batch(t: Lent, tokens: &[u16], out: &mut [i32]) -> Answer {
     asked(|answer| unsafe {
-        raw::lookahead_predict_checked(
-            mode,
+        raw::lookahead_batch(
+            0,
             t.prod0,
             t.k,
             t.rows.as_ptr(),
             t.rows.len(),
-            stream,
+            t.k,
+            out.len(),
             tokens.as_ptr(),
             tokens.len(),
+            out.as_mut_ptr(),
+            out.len(),
             answer,
         )
     })
-}
-
-/// Windows of k tokens one after the other, in archive mode.
-///
-/// # Safety
-/// As for `predict_checked`.
-pub unsafe fn windows(t: Lent, tokens: &[u16], answers: &mut [u32]) {
-    unsafe {
-        measured_windows(
-            t.prod0,
-            t.k,
-            t.rows.as_ptr(),
-            t.rows.len(),
-            tokens.as_ptr(),
-            tokens.len(),
-            answers.as_mut_ptr(),
-            answers.len(),
-        )
-    }
 }
 
 /// Both calls, so that the rows are told too: the values are the second's.

@@ -1,4 +1,4 @@
-//! Predict: the walk over a table that passed its checks, and the public call, beside `eval`.
+//! Predict: a batch of windows in one call, and a call for each window, beside `eval`.
 use crate::{clock, ours};
 use oracle::make::{self, Dice};
 use oracle::rust::Walker;
@@ -38,9 +38,9 @@ fn window(dice: &mut Dice, t: &Table) -> Vec<u16> {
     tokens
 }
 
-/// How many tables of one size, and windows of each: one table alone could favour either side.
+/// How many tables of one size, and windows of each: one table alone could favour either side; a full batch of windows.
 const TABLES: usize = 8;
-const WINDOWS: usize = 64;
+const WINDOWS: usize = 4_096;
 
 /// A table with its windows, each alone and all in a row.
 struct Set {
@@ -82,7 +82,7 @@ fn each(sets: &[Set], call: impl Fn(Lent, usize, &[u16]) -> ours::Answer) {
     }
 }
 
-/// The Rust's `eval`, its streams made beforehand; the walk over all windows of a table in one call; a call for each.
+/// The Rust's `eval`, its streams made beforehand; all windows of a table in one call; a call for each.
 fn of_size(dice: &mut Dice, rows: usize, k: usize) {
     let sets: Vec<_> = (0..TABLES).map(|_| Set::new(dice, rows, k)).collect();
     let mut asked: Vec<_> = sets
@@ -99,30 +99,24 @@ fn of_size(dice: &mut Dice, rows: usize, k: usize) {
             }
         }
     };
-    // SAFETY of both calls on checked tables: each table passed, as asserted when it was made.
     let mut answers = [0; WINDOWS];
-    let mut walks = || {
+    let mut batches = || {
         for s in &sets {
-            unsafe { ours::windows(s.lent(), &s.all, &mut answers) };
+            black_box(ours::batch(s.lent(), &s.all, &mut answers));
         }
     };
-    let mut checked = || {
-        each(&sets, |t, k, w| unsafe {
-            ours::predict_checked(0, t, k, w)
-        })
-    };
-    let mut public = || each(&sets, |t, k, w| ours::predict(0, t, k, w));
+    let mut calls = || each(&sets, |t, k, w| ours::predict(0, t, k, w));
     let what = format!("{rows} rows, k {k}");
-    let works: [clock::Work; 4] = [&mut evals, &mut walks, &mut checked, &mut public];
+    let works: [clock::Work; 3] = [&mut evals, &mut batches, &mut calls];
     clock::race(&what, TABLES * WINDOWS, 0, works);
 }
 
 pub fn run() {
-    println!("\n## predict, nanoseconds a call\n");
+    println!("\n## predict, nanoseconds a window\n");
     println!(
-        "| ratio, walk | ratio, checked call | ratio, public call | rows, k | the Rust's eval | walk | checked call | public call |"
+        "| ratio, batch | ratio, single call | rows, k | the Rust's eval | batch | single call |"
     );
-    println!("|---|---|---|---|---|---|---|---|");
+    println!("|---|---|---|---|---|---|");
     let mut dice = Dice::new(7);
     let small = [(2, 1), (5, 1), (10, 1), (10, 2), (20, 2), (30, 3)];
     let large = [100, 500, 1000].map(|rows| [(rows, 1), (rows, 4), (rows, 16)]);

@@ -6,7 +6,7 @@ use crate::fault::Fault;
 use crate::model::{self, Lists};
 use lookahead::raw;
 use oracle::agree::{self, Lending};
-use oracle::reading::{self, Answer, Mode};
+use oracle::reading::{self, Answer, Mode, Refusal};
 use oracle::{Lent, Table};
 use std::fmt::Debug;
 
@@ -141,7 +141,7 @@ pub struct Walked<'a> {
     table: Lent<'a>,
     rows: Held<'a, i32>,
     lending: Lending<'a>,
-    passed: bool,
+    check: Answer<usize>,
 }
 
 impl Desk {
@@ -162,7 +162,7 @@ impl Desk {
             table,
             rows,
             lending: Lending::new(table),
-            passed: said == 0,
+            check: read,
         }
     }
 
@@ -179,15 +179,27 @@ impl Desk {
         self.plain(&expected, &input, |answer| unsafe {
             raw::lookahead_predict(m, t.prod0, t.k, rs, rl, stream, ts, tl, answer)
         });
-        if w.passed {
-            self.plain(&expected, &("checked", input), |answer| unsafe {
-                raw::lookahead_predict_checked(m, t.prod0, t.k, rs, rl, stream, ts, tl, answer)
-            });
-        }
         self.kept(&mut held, |n| n ^ 1, &input);
         self.kept(&mut w.rows, |n| n ^ 1, &input);
-        self.asked += asked as u64 * if w.passed { 2 } else { 1 };
+        self.asked += asked as u64;
         read
+    }
+
+    /// A batch: by the words of request 2, from the answers for its windows one by one.
+    #[rustfmt::skip]
+    pub fn batch(&mut self, w: &mut Walked, mode: Mode, stream: usize, count: usize, tokens: &[u16], room: usize) {
+        let (t, m) = (w.table, number(mode, count));
+        let input = ("batch", mode, t, stream, count, tokens, room);
+        let (asked, read) = batch(w, mode, stream, count, tokens, room);
+        let expected = Expected::of(read, |said| ([said.len() as u64, 0, 0, 0], said));
+        let mut held = Held::new(tokens);
+        let ((rs, rl), (ts, tl)) = (w.rows.lent(), held.lent());
+        self.made(&expected, room, &input, |out, len, answer| unsafe {
+            raw::lookahead_batch(m, t.prod0, t.k, rs, rl, stream, count, ts, tl, out, len, answer)
+        });
+        self.kept(&mut held, |n| n ^ 1, &input);
+        self.kept(&mut w.rows, |n| n ^ 1, &input);
+        self.asked += asked as u64;
     }
 
     #[rustfmt::skip]
@@ -209,5 +221,32 @@ impl Desk {
         self.kept(&mut held, |n| n ^ 1, &input);
         self.kept(&mut w.rows, |n| n ^ 1, &input);
         self.asked += 2 * asked as u64;
+    }
+}
+
+/// Whether the Rust was asked of each window, and the answers: the production, or minus the refusal number.
+#[rustfmt::skip]
+fn batch(w: &Walked, mode: Mode, stream: usize, count: usize, tokens: &[u16], room: usize)
+    -> (bool, Answer<Vec<i32>>) {
+    let one = Refusal::Plain(1);
+    if w.check == Err(one) || count.checked_mul(w.table.k) != Some(tokens.len()) || count > 4_096 || count > room {
+        return (false, Err(one));
+    }
+    if let Err(refusal) = w.check {
+        return (false, Err(refusal));
+    }
+    if stream < w.table.k {
+        return (false, Err(Refusal::Plain(9)));
+    }
+    let windows = (0..count).map(|i| &tokens[i * w.table.k..][..w.table.k]);
+    let said: Vec<_> = windows.map(|window| w.lending.predict(mode, stream, window)).collect();
+    let asked = count > 0 && said.iter().all(|(asked, _)| *asked);
+    (asked, Ok(said.into_iter().map(|(_, answer)| answered(answer)).collect()))
+}
+
+fn answered(answer: Answer<(i32, usize)>) -> i32 {
+    match answer {
+        Ok((production, _)) => production,
+        Err(refusal) => -(refusal.number() as i32),
     }
 }

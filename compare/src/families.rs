@@ -1,5 +1,6 @@
 //! The families of cases, each in parts that can be worked on side by side.
 
+mod batches;
 mod bounds;
 mod damaged;
 mod intake;
@@ -31,11 +32,13 @@ const fn drawn(name: &'static str, run: fn(&mut Desk, Part)) -> Family {
     Family { name, run, once }
 }
 
-pub const ALL: [Family; 20] = [
+pub const ALL: [Family; 23] = [
     full("all small lists, built", small::lists),
     full("all pairs of small trees, united", small::pairs),
     full("all small ruled tables, shrunk and written", small::ruled),
     full("all windows over all small tables", small::walks),
+    full("all small batches of windows", batches::small),
+    full("every limit of a batch from both sides", batches::limits),
     full("all tables of boundary numbers", bounds::tables),
     full("all pairs of small lists, intake", intake::pairs),
     full("all one-byte changes of texts", texts::bytes),
@@ -44,6 +47,7 @@ pub const ALL: [Family; 20] = [
     drawn("random trees, united", random::trees),
     drawn("random ruled tables, shrunk", random::ruled),
     drawn("random tables, walked", random::walks),
+    drawn("random batches of windows", batches::drawn),
     drawn("built, united, shrunk and walked", random::chains),
     drawn("random lists in all orders, intake", intake::orders),
     drawn("random texts, there and back", texts::back),

@@ -37,7 +37,7 @@ fn lists() -> Lists {
 }
 
 /// The calls, each with the faults that cannot show in it.
-const CALLS: [Call; 11] = [
+const CALLS: [Call; 12] = [
     ("build", |d| drop(d.build(1, &[1], &[5], ROOM)), &[]),
     (
         "unite",
@@ -68,6 +68,7 @@ const CALLS: [Call; 11] = [
     ),
     ("check", |d| drop(d.lend(table())), &NUMBER_ALONE),
     ("predict", |d| predicted(d), &NO_OUTPUT),
+    ("batch", |d| batched(d), &[]),
     ("explain", |d| explained(d), &NO_OUTPUT),
 ];
 
@@ -77,6 +78,13 @@ fn predicted(desk: &mut Desk) {
     let mut lent = desk.lend(table());
     desk.fault = fault;
     let _ = desk.predict(&mut lent, Mode::Archive, 2, &[5, 6]);
+}
+
+fn batched(desk: &mut Desk) {
+    let fault = desk.fault.take();
+    let mut lent = desk.lend(table());
+    desk.fault = fault;
+    desk.batch(&mut lent, Mode::Archive, 2, 2, &[5, 6, 9, 9], 3);
 }
 
 fn explained(desk: &mut Desk) {

@@ -27,6 +27,9 @@ pub const ROOM: usize = 16_384;
 /// The count of bytes that an output slice for text has at least.
 pub const TEXT_ROOM: usize = 262_144;
 
+/// The count of windows that a batch has at most.
+pub const WINDOWS: usize = 4_096;
+
 /// A table as it is lent: any numbers, any length.
 #[derive(Debug, Clone, Copy, PartialEq, Eq)]
 pub struct Lent<'a> {
@@ -140,17 +143,31 @@ pub fn predict(mode: Mode, t: Lent, stream: usize, tokens: &[u16]) -> Result<Pre
     }).map(predicted)
 }
 
-/// The same for a table that [`check`] accepts.
+/// The answer for each of `count` windows of k tokens, one after the other: the production, or minus the number of its
+/// refusal. It is what so many calls of [`predict`] would say; the table is checked once. The count of answers, or the
+/// refusal of the whole: 1 also for over [`WINDOWS`] windows, other tokens than `count` times k, or a short `out`.
 ///
-/// # Safety
-/// [`check`] accepts the table.
+/// ```
+/// use lookahead::lent::{self, Lent};
+/// use lookahead::{Mode, Refusal};
+///
+/// let rows = [0, 5, 1, 1, 1, 6, 2, 2];
+/// let t = Lent { prod0: -1, k: 2, rows: &rows };
+/// let mut out = [0; 4];
+/// assert_eq!(3, lent::batch(Mode::Intake, t, 2, 3, &[5, 6, 9, 9, 5, 9], &mut out)?);
+/// assert_eq!([2, -11, 1, 0], out);
+/// assert_eq!(Err(Refusal::Length), lent::batch(Mode::Intake, t, 2, 3, &[5, 6, 9, 9, 5], &mut out));
+/// assert_eq!(Err(Refusal::Mismatch), lent::batch(Mode::Intake, t, 1, 1, &[5, 6], &mut out));
+/// assert_eq!([2, -11, 1, 0], out);
+/// # Ok::<(), Refusal>(())
+/// ```
 #[rustfmt::skip]
-pub(crate) unsafe fn predict_checked(mode: Mode, t: Lent, stream: usize, tokens: &[u16])
-    -> Result<Predicted, Refusal> {
+pub fn batch(mode: Mode, t: Lent, stream: usize, count: usize, tokens: &[u16], out: &mut [i32])
+    -> Result<usize, Refusal> {
     asked(|answer| unsafe {
-        raw::lookahead_predict_checked(mode.number(), t.prod0, t.k, t.rows.as_ptr(), t.rows.len(), stream,
-            tokens.as_ptr(), tokens.len(), answer)
-    }).map(predicted)
+        raw::lookahead_batch(mode.number(), t.prod0, t.k, t.rows.as_ptr(), t.rows.len(), stream, count,
+            tokens.as_ptr(), tokens.len(), out.as_mut_ptr(), out.len(), answer)
+    }).map(|values| values[0] as usize)
 }
 
 fn predicted(values: [u64; 4]) -> Predicted {

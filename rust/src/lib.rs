@@ -3,7 +3,7 @@
 //! The work is done by the proved calls of the static library that `rt staticlib exports` writes; this crate gives them
 //! Rust's own manner. Refusals are those of document 01.
 //!
-//! - [`Table`] holds its rows; [`Checked`] borrows rows that were checked once;
+//! - [`Table`] holds its rows;
 //! - [`lent`] has the calls over lent slices, which allocate nothing;
 //! - [`raw`] has the declarations.
 //!
@@ -19,7 +19,6 @@
 //! # Ok::<(), lookahead::Refusal>(())
 //! ```
 
-mod checked;
 pub mod lent;
 mod mode;
 pub mod raw;
@@ -27,7 +26,6 @@ mod refusal;
 mod rows;
 mod table;
 
-pub use checked::Checked;
 pub use lent::Predicted;
 pub use mode::Mode;
 pub use refusal::Refusal;

@@ -1,12 +1,12 @@
 //! A table that holds its rows.
 
 use crate::lent::{self, Lent, Made, Predicted, ROOM, TEXT_ROOM};
-use crate::rows::{Row, Rows, coded};
-use crate::{Checked, Mode, Refusal};
+use crate::rows::{Row, Rows, coded, decoded};
+use crate::{Mode, Refusal};
 use std::fmt;
 use std::str::FromStr;
 
-/// A lookahead table. Every table has passed the checks 1, 2 and 3 and does not change, so none is checked again.
+/// A lookahead table. Every table has passed the checks 1, 2 and 3 and does not change.
 ///
 /// ```
 /// use lookahead::{Mode, Refusal, Table};
@@ -131,7 +131,32 @@ impl Table {
 
     /// The production that the first k tokens mean, in a stream whose own k is `stream`: 9, 10, then 11 or 12.
     pub fn predict(&self, mode: Mode, stream: usize, tokens: &[u16]) -> Result<Predicted, Refusal> {
-        self.checked().predict(mode, stream, tokens)
+        lent::predict(mode, self.lent(), stream, tokens)
+    }
+
+    /// What [`Table::predict`] says of each of `count` windows of k tokens that stand one after the other, but for the rows
+    /// entered: for many windows in one go, since a call checks its table. 1 for over [`lent::WINDOWS`] windows or other
+    /// tokens than `count` times k, 9 for the whole; then for each window 11 or 12.
+    ///
+    /// ```
+    /// use lookahead::{Mode, Refusal, Table};
+    ///
+    /// let t = Table::intake(&[(1, &[&[5], &[7]]), (2, &[&[5, 6]])])?.table;
+    /// let said = t.batch(Mode::Intake, 2, 3, &[5, 6, 9, 9, 7, 5])?;
+    /// assert_eq!(vec![Ok(2), Err(Refusal::None), Ok(1)], said);
+    /// assert_eq!(Err(Refusal::Length), t.batch(Mode::Intake, 2, 1, &[5]));
+    /// # Ok::<(), Refusal>(())
+    /// ```
+    pub fn batch(
+        &self,
+        mode: Mode,
+        stream: usize,
+        count: usize,
+        tokens: &[u16],
+    ) -> Result<Vec<Result<u16, Refusal>>, Refusal> {
+        let mut out = vec![0; count.min(lent::WINDOWS)];
+        lent::batch(mode, self.lent(), stream, count, tokens, &mut out)?;
+        Ok(out.into_iter().map(answered).collect())
     }
 
     /// The count of tokens that have a row one after the other, and the rows that leave the state where the next has
@@ -147,7 +172,9 @@ impl Table {
     /// # Ok::<(), lookahead::Refusal>(())
     /// ```
     pub fn explain(&self, tokens: &[u16]) -> (usize, Rows<'_>) {
-        self.checked().explain(tokens)
+        let said = lent::explain(self.lent(), tokens);
+        let (matched, rows) = said.expect("a table that passed 1, 2 and 3 is explained");
+        (matched, Rows(rows))
     }
 
     /// The table of a text: 13, 1, 2, 3. `parse` does the same.
@@ -180,7 +207,7 @@ impl Table {
 
     /// What state 0 accepts.
     pub fn prod0(&self) -> Option<u16> {
-        self.checked().prod0()
+        decoded(self.prod0)
     }
 
     /// How many tokens a prediction needs.
@@ -201,10 +228,14 @@ impl Table {
             rows: &self.numbers,
         }
     }
+}
 
-    /// The table for predicting often.
-    pub fn checked(&self) -> Checked<'_> {
-        Checked::again(self.lent())
+/// A window's answer: the production, or the refusal of minus its number.
+fn answered(n: i32) -> Result<u16, Refusal> {
+    if n < 0 {
+        Err(Refusal::of(n.unsigned_abs() as usize, &[0; 4]).expect("a number that is not 0"))
+    } else {
+        Ok(n as u16)
     }
 }
 

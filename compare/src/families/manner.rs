@@ -5,7 +5,7 @@ use crate::desk::Desk;
 use crate::model::{self, Lists};
 use crate::part::Part;
 use lookahead::lent::{self, Lent};
-use lookahead::{Checked, Mode, Table};
+use lookahead::{Mode, Table};
 use oracle::make::{self, Dice};
 use oracle::reading::{self, Answer, Refusal};
 use std::fmt::Debug;
@@ -57,7 +57,7 @@ pub fn functions(desk: &mut Desk, part: Part) {
         let bad = crate::damage::table(&mut dice, &good);
         for t in [&good, &bad] {
             let (prod0, k, rows) = (t.prod0, t.k, &t.rows[..]);
-            let passed = Checked::new(Lent { prod0, k, rows }).map(|_| 0);
+            let passed = lent::check(Lent { prod0, k, rows }).map(|_| 0);
             same(desk, passed, reading::explain(t.lent(), &[]).matched, t);
             if let Ok(table) = Table::from_numbers(t.prod0, t.k, t.rows.clone()) {
                 shrunk_and_walked(desk, &mut dice, &table, t);
@@ -80,6 +80,14 @@ fn shrunk_and_walked(desk: &mut Desk, dice: &mut Dice, table: &Table, t: &oracle
         let said = said.map(|s| (s.production.into(), s.entered));
         let read = reading::predict(other, t.lent(), 16, &tokens);
         same(desk, said, read, (t, &tokens));
+        let count = tokens.len().checked_div(t.k).unwrap_or(2);
+        let said = table.batch(mode, 16, count, &tokens[..count * t.k]);
+        let read = (0..count).map(|i| reading::predict(other, t.lent(), 16, &tokens[i * t.k..]));
+        let read: Vec<_> = read
+            .map(|a| a.map(|(production, _)| production as u16))
+            .collect();
+        let said = said.map(|all| all.into_iter().map(|a| a.map_err(refusal)).collect());
+        same(desk, said, Ok(read), (t, &tokens));
     }
     let (matched, rows) = table.explain(&tokens);
     let read = reading::explain(t.lent(), &tokens);

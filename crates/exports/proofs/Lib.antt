@@ -1,3 +1,1 @@
-pub mod Hands
 pub mod Fits
-pub mod Identical

@@ -1,33 +1,17 @@
 // The calls for Rust and C: numbers and slices in, the refusal's number out (0: accepted), values in `answer`.
-use paper::Mode;
 use rows::verdict::Verdict;
-
-mod answers;
-
 ghost use mathlib.Core.Path.{_≡_};
 ghost use lib.ListN.{length};
-ghost use Rattle.paper.specs.Rows.{table};
 ghost use Rattle.paper.specs.Build.{build};
 ghost use Rattle.paper.specs.Unite.{unite};
 ghost use Rattle.paper.specs.Shrink.{shrink};
 ghost use Rattle.paper.specs.Predict.{predict};
 ghost use Rattle.paper.specs.Explain.{matched-count, stretch};
 ghost use Rattle.paper.specs.Text.{text-in, text-out};
-ghost use Rattle.predict.specs.Seen.{Sound, checked};
+ghost use Rattle.batch.specs.Batch.{batch};
 ghost use Rattle.intake.specs.Call.{table-of};
-ghost use Rattle.exports.specs.Handed.{mode-of, table-checked, of-chosen, of-count, of-stretch, returned};
-ghost use Rattle.exports.specs.Handed.{Hands, Handed-table, Handed-read, Handed-text};
-
-// Mode 0 is archive; any other number is intake.
-fn mode_of(mode: u32) -> Mode
-    ensures { λ r. ⌜ r ≡ mode-of mode ⌝ }
-{
-    if mode == 0 {
-        Mode::Archive
-    } else {
-        Mode::Intake
-    }
-}
+ghost use Rattle.handed.specs.Handed.{mode-of, table-checked, of-chosen, of-count, of-stretch, returned};
+ghost use Rattle.handed.specs.Handed.{Hands, Handed-table, Handed-read, Handed-text, Handed-batch};
 
 // Build: rows at the front of `out`; prod0 plus one, k, the row count, the state count.
 #[no_mangle]
@@ -41,7 +25,7 @@ pub extern "C" fn lookahead_build(
     ensures { λ r. ⌜ Handed-table (build production (now (tokens .entry)) (now (lengths .entry))
         (length (now (out .entry)))) (now (out .entry)) (now (out .exit)) r (now (answer .exit)) ⌝ }
 {
-    answers::made(build::build(production, tokens, lengths, out), answer)
+    handed::made(build::build(production, tokens, lengths, out), answer)
 }
 
 // Unite: rows at the front of `out`; the values as build's.
@@ -60,8 +44,8 @@ pub extern "C" fn lookahead_unite(
     ensures { λ r. ⌜ Handed-table (unite (mode-of mode) prod0a ka (now (a .entry)) prod0b kb (now (b .entry))
         (length (now (out .entry)))) (now (out .entry)) (now (out .exit)) r (now (answer .exit)) ⌝ }
 {
-    let mode = mode_of(mode);
-    answers::made(
+    let mode = handed::mode_of(mode);
+    handed::made(
         unite::unite(mode, prod0a, ka, a, prod0b, kb, b, out),
         answer,
     )
@@ -80,8 +64,8 @@ pub extern "C" fn lookahead_shrink(
     ensures { λ r. ⌜ Handed-table (shrink (mode-of mode) prod0 k (now (rows .entry)) (length (now (out .entry))))
         (now (out .entry)) (now (out .exit)) r (now (answer .exit)) ⌝ }
 {
-    let mode = mode_of(mode);
-    answers::made(shrink::shrink(mode, prod0, k, rows, out), answer)
+    let mode = handed::mode_of(mode);
+    handed::made(shrink::shrink(mode, prod0, k, rows, out), answer)
 }
 
 // Several lists built, united and shrunk in intake mode: rows at the front of `out`; the values as build's.
@@ -97,7 +81,7 @@ pub extern "C" fn lookahead_intake(
     ensures { λ r. ⌜ Handed-table (table-of (now (productions .entry)) (now (counts .entry)) (now (lengths .entry))
         (now (tokens .entry)) (length (now (out .entry)))) (now (out .entry)) (now (out .exit)) r (now (answer .exit)) ⌝ }
 {
-    answers::made(
+    handed::made(
         intake::shrunk_table(productions, counts, lengths, tokens, out),
         answer,
     )
@@ -132,31 +116,33 @@ pub extern "C" fn lookahead_predict(
     ensures { λ r. ⌜ Hands (predict (mode-of mode) prod0 k (now (rows .entry)) stream (now (tokens .entry)))
         of-chosen r (now (answer .exit)) ⌝ }
 {
-    let mode = mode_of(mode);
-    answers::predicted(
+    let mode = handed::mode_of(mode);
+    handed::predicted(
         predict::predict(mode, prod0, k, rows, stream, tokens),
         answer,
     )
 }
 
-// Predict for a table that lookahead_check accepts, for callers who predict often; no other table may be lent here.
+// Batch: at the front of `out` the answer for each of `count` windows of k tokens, one after the other: the production, or
+// minus the number of its refusal; their count.
 #[no_mangle]
-pub extern "C" fn lookahead_predict_checked(
+pub extern "C" fn lookahead_batch(
     mode: u32,
     prod0: i32,
     k: usize,
     rows: &[i32],
     stream: usize,
+    count: usize,
     tokens: &[u16],
+    out: &mut [i32],
     answer: &mut [u64; 4],
 ) -> usize
-    requires { ⌜ Sound prod0 k (now rows) ⌝ }
-    ensures { λ r. ⌜ Hands (checked (mode-of mode) (table prod0 k (now (rows .entry))) stream (now (tokens .entry)))
-        of-chosen r (now (answer .exit)) ⌝ }
+    ensures { λ r. ⌜ Handed-batch (batch (mode-of mode) prod0 k (now (rows .entry)) stream count (now (tokens .entry))
+        (length (now (out .entry)))) (now (out .entry)) (now (out .exit)) r (now (answer .exit)) ⌝ }
 {
-    let mode = mode_of(mode);
-    answers::predicted(
-        predict::predict_checked(mode, prod0, k, rows, stream, tokens),
+    let mode = handed::mode_of(mode);
+    handed::wrote(
+        batch::batch(mode, prod0, k, rows, stream, count, tokens, out),
         answer,
     )
 }
@@ -172,7 +158,7 @@ pub extern "C" fn lookahead_explain(
 ) -> usize
     ensures { λ r. ⌜ Hands (matched-count prod0 k (now (rows .entry)) (now (tokens .entry))) of-count r (now (answer .exit)) ⌝ }
 {
-    answers::explained(explain::matched(prod0, k, rows, tokens), answer)
+    handed::explained(explain::matched(prod0, k, rows, tokens), answer)
 }
 
 // Explain, the second call: where the rows that leave the stopped state begin in `rows`, and how many numbers they are.
@@ -187,7 +173,7 @@ pub extern "C" fn lookahead_stretch(
     ensures { λ _. ⌜ now (answer .exit) ≡ of-stretch (stretch prod0 k (now (rows .entry)) (now (tokens .entry))) ⌝ }
 {
     let part = explain::place(prod0, k, rows, tokens);
-    answers::put(answer, part.start as u64, part.count as u64, 0, 0);
+    handed::put(answer, part.start as u64, part.count as u64, 0, 0);
 }
 
 // Text in: rows at the front of `out`; prod0 plus one, k, the row count.
@@ -196,7 +182,7 @@ pub extern "C" fn lookahead_text_in(text: &[u8], out: &mut [i32], answer: &mut [
     ensures { λ r. ⌜ Handed-read (text-in (now (text .entry)) (length (now (out .entry))))
         (now (out .entry)) (now (out .exit)) r (now (answer .exit)) ⌝ }
 {
-    answers::heard(text::text_in(text, out), answer)
+    handed::heard(text::text_in(text, out), answer)
 }
 
 // Text out: the text at the front of `out`; its length.
@@ -211,5 +197,5 @@ pub extern "C" fn lookahead_text_out(
     ensures { λ r. ⌜ Handed-text (text-out prod0 k (now (rows .entry)) (length (now (out .entry))))
         (now (out .entry)) (now (out .exit)) r (now (answer .exit)) ⌝ }
 {
-    answers::wrote(text::text_out(prod0, k, rows, out), answer)
+    handed::wrote(text::text_out(prod0, k, rows, out), answer)
 }

@@ -1,6 +1,6 @@
 use mathlib.Core.Path.{sym, _∙_}
 use Rattle.rows.proofs.Signed.{same}
-use Rattle.exports.proofs.Hands.{checked-length, checked-refused, checked-passed}
+use Rattle.handed.proofs.Hands.{checked-length, checked-refused, checked-passed}
 use borrow.Author.Needs.{needs}
 use Rattle.exports.proofs.lookahead_check.Statement.{statement}
 use Rattle.exports.proofs.lookahead_check.Tie as tie

@@ -1,11 +1,11 @@
 use Rattle.rows.proofs.Signed.{same}
-use Rattle.exports.proofs.Hands.{text-hands}
+use Rattle.handed.proofs.Hands.{text-hands}
 use borrow.Author.Needs.{needs}
 use Rattle.exports.proofs.lookahead_text_out.Statement.{statement}
 use Rattle.exports.proofs.lookahead_text_out.Tie as tie
 use Rattle.exports.proofs.lookahead_text_out.Reads as reads
 use Rattle.exports.proofs.lookahead_text_out.Lts as lts
-use Rattle.exports.proofs.answers.wrote.Reads as wrote-reads
+use Rattle.handed.proofs.wrote.Reads as wrote-reads
 use Rattle.text.proofs.text_out.Reads as text-out-reads
 
 text-out-requires : tie.Need-text-out-requires

@@ -1,13 +1,13 @@
 use Rattle.rows.proofs.Signed.{same}
-use Rattle.exports.proofs.Hands.{table-hands}
+use Rattle.handed.proofs.Hands.{table-hands}
 use Rattle.exports.proofs.Fits.{unite-fits}
 use borrow.Author.Needs.{needs}
 use Rattle.exports.proofs.lookahead_unite.Statement.{statement}
 use Rattle.exports.proofs.lookahead_unite.Tie as tie
 use Rattle.exports.proofs.lookahead_unite.Reads as reads
 use Rattle.exports.proofs.lookahead_unite.Lts as lts
-use Rattle.exports.proofs.answers.made.Reads as made-reads
-use Rattle.exports.proofs.mode_of.Reads as mode-of-reads
+use Rattle.handed.proofs.made.Reads as made-reads
+use Rattle.handed.proofs.mode_of.Reads as mode-of-reads
 use Rattle.unite.proofs.unite.Reads as unite-reads
 
 mode-of-requires : tie.Need-mode-of-requires

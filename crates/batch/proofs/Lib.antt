@@ -1,0 +1,4 @@
+pub mod Counts
+pub mod Minus
+pub mod Windows
+pub mod Batched
