@@ -11,7 +11,7 @@ use Rattle.paper.specs.declared.Mode.{Mode}
 use Rattle.paper.specs.declared.Refusal.{Refusal}
 use Rattle.paper.specs.declared.Writing.the-variants.{Wrote, Refused}
 use Rattle.paper.specs.Rows.{Table, table}
-use Rattle.paper.specs.Answers.{Ruling, accept, refuse, number, detail, Chosen}
+use Rattle.paper.specs.Answers.{Ruling, accept, refuse, number, detail, Chosen, Writes}
 use Rattle.paper.specs.Checks.{first, row-slice, plain}
 use Rattle.paper.specs.Predict.{predict}
 use Rattle.rows.specs.Verdicts.{Judges, follow}
@@ -21,7 +21,7 @@ use Rattle.rows.specs.declared.verdict.Verdict.the-variants.{Pass}
 use Rattle.rows.proofs.Judged.{judged}
 use Rattle.predict.specs.Seen.{checked}
 use Rattle.predict.proofs.Parts.{after-checks}
-use Rattle.batch.specs.Batch.{answered, each-window, window-lengths, batch, Answers}
+use Rattle.paper.specs.Batch.{answered, each-window, window-lengths, batch}
 
 -- an answer for each window, and no more
 answers-count : (f : List ℕ → Ruling Chosen) (k n : ℕ) (ts : List ℕ) → length (each-window f k n ts) ≡ n
@@ -38,7 +38,7 @@ agreeing f g e k (suc n) ts = rw (e (take k ts), agreeing f g e k n (drop k ts))
 
 -- a refusal, and what was written
 module _ {ruling : Ruling (List ℤ)} {old : List ℤ} where
-  pub refused : (r : Refusal) → ruling ≡ refuse (number r) (detail r) → Answers ruling (Refused r) old old
+  pub refused : (r : Refusal) → ruling ≡ refuse (number r) (detail r) → Writes ruling (Refused r) old old
   refused r e = record { says = rw e; holds = rw e }
 
 module _ (mode : Mode) (p : ℤ) (k : ℕ) (ns : List ℤ) (stream count : ℕ) (ts : List ℕ) (room : ℕ) where
@@ -78,7 +78,7 @@ module _ (mode : Mode) (p : ℤ) (k : ℕ) (ns : List ℤ) (stream count : ℕ) 
 
         pub written : (old new : List ℤ) → k ≤ stream
             → new ≡ each-window (checked mode (table p k ns) stream) k count ts ++ drop count old
-            → Answers (batch mode p k ns stream count ts room) (Wrote count) old new
+            → Writes (batch mode p k ns stream count ts room) (Wrote count) old new
         written old new h e =
             let n = answers-count (checked mode (table p k ns) stream) k count ts in
             record { says = rw (accepted h, n) refl; holds = rw (accepted h, n) e }

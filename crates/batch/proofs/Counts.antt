@@ -9,7 +9,7 @@ use lib.Arith.{digits-div}
 use lib.Dec.{eqb, ltb}
 use borrow.Author.Tests.{eq-eqb, ne-eqb, eqb-true, not-false, ltb-false}
 use Rattle.laws.proofs.Every.{neither}
-use Rattle.batch.specs.Batch.{window-lengths}
+use Rattle.paper.specs.Batch.{window-lengths}
 
 -- a sum is its first part where the second is 0
 by-rest : (n m r : ℕ) → m + r ≡ n → not (eqb r 0) ≡ not (eqb n m)

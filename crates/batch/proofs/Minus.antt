@@ -10,7 +10,7 @@ use mir.Facts.{toZ-ofZ, toZ-pos}
 use Rattle.paper.specs.declared.Refusal.{Refusal}
 use Rattle.paper.specs.declared.Refusal.the-variants as refusal
 use Rattle.paper.specs.Answers.{number}
-use Rattle.batch.specs.Batch.{minus}
+use Rattle.paper.specs.Batch.{minus}
 
 -- the last number is 14
 pub at-most-14 : (f : Refusal) → number f ≤ 14

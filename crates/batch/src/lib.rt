@@ -11,9 +11,9 @@ ghost use Prim.Native.Nat.{_+_, _*_, _≤_};
 ghost use lib.ListN.{length, take, drop};
 ghost use lib.Dec.{eqb};
 ghost use Rattle.paper.specs.Rows.{table};
-ghost use Rattle.paper.specs.Answers.{predicted, number};
+ghost use Rattle.paper.specs.Answers.{predicted, number, Writes};
 ghost use Rattle.predict.specs.Seen.{Sound, checked};
-ghost use Rattle.batch.specs.Batch.{minus, answered, each-window, window-lengths, batch, Answers};
+ghost use Rattle.paper.specs.Batch.{minus, answered, each-window, window-lengths, batch};
 
 // A refusal's number, below 0.
 fn below(f: Refusal) -> i32
@@ -116,7 +116,7 @@ pub fn batch(
     tokens: &[u16],
     answers: &mut [i32],
 ) -> Writing
-    ensures { λ r. ⌜ Answers (batch mode prod0 k (now (rows .entry)) stream count (now (tokens .entry))
+    ensures { λ r. ⌜ Writes (batch mode prod0 k (now (rows .entry)) stream count (now (tokens .entry))
         (length (now (answers .entry)))) r (now (answers .entry)) (now (answers .exit)) ⌝ }
 {
     if rows::checks::row_slice(rows) {

@@ -8,10 +8,10 @@ ghost use Rattle.paper.specs.Shrink.{shrink};
 ghost use Rattle.paper.specs.Predict.{predict};
 ghost use Rattle.paper.specs.Explain.{matched-count, stretch};
 ghost use Rattle.paper.specs.Text.{text-in, text-out};
-ghost use Rattle.batch.specs.Batch.{batch};
+ghost use Rattle.paper.specs.Batch.{batch};
 ghost use Rattle.intake.specs.Call.{table-of};
 ghost use Rattle.handed.specs.Handed.{mode-of, table-checked, of-chosen, of-count, of-stretch, returned};
-ghost use Rattle.handed.specs.Handed.{Hands, Handed-table, Handed-read, Handed-text, Handed-batch};
+ghost use Rattle.handed.specs.Handed.{Hands, Handed-table, Handed-read, Handed-written};
 
 // Build: rows at the front of `out`; prod0 plus one, k, the row count, the state count.
 #[no_mangle]
@@ -137,7 +137,7 @@ pub extern "C" fn lookahead_batch(
     out: &mut [i32],
     answer: &mut [u64; 4],
 ) -> usize
-    ensures { λ r. ⌜ Handed-batch (batch (mode-of mode) prod0 k (now (rows .entry)) stream count (now (tokens .entry))
+    ensures { λ r. ⌜ Handed-written (batch (mode-of mode) prod0 k (now (rows .entry)) stream count (now (tokens .entry))
         (length (now (out .entry)))) (now (out .entry)) (now (out .exit)) r (now (answer .exit)) ⌝ }
 {
     let mode = handed::mode_of(mode);
@@ -194,7 +194,7 @@ pub extern "C" fn lookahead_text_out(
     out: &mut [u8],
     answer: &mut [u64; 4],
 ) -> usize
-    ensures { λ r. ⌜ Handed-text (text-out prod0 k (now (rows .entry)) (length (now (out .entry))))
+    ensures { λ r. ⌜ Handed-written (text-out prod0 k (now (rows .entry)) (length (now (out .entry))))
         (now (out .entry)) (now (out .exit)) r (now (answer .exit)) ⌝ }
 {
     handed::wrote(text::text_out(prod0, k, rows, out), answer)

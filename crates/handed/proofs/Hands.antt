@@ -33,7 +33,6 @@ use Rattle.paper.specs.Answers.{
   Writes,
 }
 use Rattle.rows.specs.Places.{code}
-use Rattle.batch.specs.Batch.{Answers}
 use Rattle.rows.specs.Verdicts.{Judges}
 use Rattle.rows.specs.declared.verdict.Verdict.the-variants.{Pass, Refused}
 use Rattle.rows.proofs.Signed.{back}
@@ -50,8 +49,7 @@ use Rattle.handed.specs.Handed.{
   Hands,
   Handed-table,
   Handed-read,
-  Handed-text,
-  Handed-batch,
+  Handed-written,
 }
 
 -- the first value, said otherwise
@@ -97,16 +95,9 @@ read-hands g said old new r answer small m h = record {
   holds = m .holds;
 }
 
-pub text-hands : (g : Ruling (List ℕ)) (said : Writing) (old new : List ℕ) (r : ℕ) (answer : List ℕ) →
-    Writes g said old new → Hands (wrote said) of-count r answer → Handed-text g old new r answer
-text-hands g said old new r answer m h = record {
-  hands = hand-over g (wrote said) _ of-written of-count r answer (m .says) (λ b e. refl) h;
-  holds = m .holds;
-}
-
-pub batch-hands : (g : Ruling (List ℤ)) (said : Writing) (old new : List ℤ) (r : ℕ) (answer : List ℕ) →
-    Answers g said old new → Hands (wrote said) of-count r answer → Handed-batch g old new r answer
-batch-hands g said old new r answer m h = record {
+pub written-hands : {E : Type 0} (g : Ruling (List E)) (said : Writing) (old new : List E) (r : ℕ) (answer : List ℕ) →
+    Writes g said old new → Hands (wrote said) of-count r answer → Handed-written g old new r answer
+written-hands g said old new r answer m h = record {
   hands = hand-over g (wrote said) _ of-written of-count r answer (m .says) (λ b e. refl) h;
   holds = m .holds;
 }

@@ -66,25 +66,23 @@ pub record Hands {A : Type 0} (ruling : Ruling A) (f : A → List ℕ) (number :
   pub says : number ≡ returned ruling
   pub holds : answer ≡ four (values f ruling)
 
--- Build, unite, shrink and intake: that, and the output.
-pub record Handed-table (g : Ruling Made) (old new : List ℤ) (number : ℕ) (answer : List ℕ) : Type 0 where
-  pub hands : Hands g of-made number answer
-  pub holds : new ≡ output (λ m. numbers (m .table .rows)) g old
+-- That, and the output.
+pub record Handed {A E : Type 0} (f : A → List ℕ) (written : A → List E) (ruling : Ruling A) (old new : List E)
+    (number : ℕ) (answer : List ℕ) : Type 0 where
+  pub hands : Hands ruling f number answer
+  pub holds : new ≡ output written ruling old
+
+-- Build, unite, shrink and intake.
+abbrev pub Handed-table : Ruling Made → List ℤ → List ℤ → ℕ → List ℕ → Type 0
+Handed-table = Handed of-made (λ m. numbers (m .table .rows))
 
 -- Text in.
-pub record Handed-read (g : Ruling Table) (old new : List ℤ) (number : ℕ) (answer : List ℕ) : Type 0 where
-  pub hands : Hands g of-read number answer
-  pub holds : new ≡ output (λ t. numbers (t .rows)) g old
+abbrev pub Handed-read : Ruling Table → List ℤ → List ℤ → ℕ → List ℕ → Type 0
+Handed-read = Handed of-read (λ t. numbers (t .rows))
 
--- Text out.
-pub record Handed-text (g : Ruling (List ℕ)) (old new : List ℕ) (number : ℕ) (answer : List ℕ) : Type 0 where
-  pub hands : Hands g of-written number answer
-  pub holds : new ≡ output (λ b. b) g old
-
--- Batch.
-pub record Handed-batch (g : Ruling (List ℤ)) (old new : List ℤ) (number : ℕ) (answer : List ℕ) : Type 0 where
-  pub hands : Hands g of-written number answer
-  pub holds : new ≡ output (λ b. b) g old
+-- Text out and batch.
+abbrev pub Handed-written : {E : Type 0} → Ruling (List E) → List E → List E → ℕ → List ℕ → Type 0
+Handed-written = Handed of-written (λ b. b)
 
 -- The checks of predict and explain on the table alone: 1, 2, 3.
 abbrev pub table-checked : ℤ → ℕ → List ℤ → Ruling ℕ

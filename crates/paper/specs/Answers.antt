@@ -112,7 +112,7 @@ abbrev pub heard : Reading → Ruling Title
 heard (reading.Read p k n) = accept (record { prod0 = p; k = k; rows = n })
 heard (reading.Refused r) = refuse (number r) (detail r)
 
--- Of text out.
+-- Of text out and batch.
 abbrev pub wrote : Writing → Ruling ℕ
 wrote (writing.Wrote n) = accept n
 wrote (writing.Refused r) = refuse (number r) (detail r)
@@ -136,7 +136,7 @@ pub record Reads (ruling : Ruling Table) (answer : Reading) (old new : List ℤ)
   }))
   pub holds : new ≡ output (λ t. numbers (t .rows)) ruling old
 
--- Text out: the answer and the output are what the ruling says.
-pub record Writes (ruling : Ruling (List ℕ)) (answer : Writing) (old new : List ℕ) : Type 0 where
+-- Text out and batch: the answer and the output are what the ruling says.
+pub record Writes {E : Type 0} (ruling : Ruling (List E)) (answer : Writing) (old new : List E) : Type 0 where
   pub says : wrote answer ≡ then ruling (λ b. accept (length b))
   pub holds : new ≡ output (λ b. b) ruling old

@@ -6,6 +6,7 @@ pub mod Build
 pub mod Unite
 pub mod Shrink
 pub mod Predict
+pub mod Batch
 pub mod Explain
 pub mod Text
 pub mod Tabrep

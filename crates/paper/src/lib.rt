@@ -67,7 +67,7 @@ pub enum Reading {
     Refused(Refusal),
 }
 
-// Text out: the count of bytes at the front of the output.
+// Text out and batch: the count of bytes, of answers, at the front of the output.
 pub enum Writing {
     Wrote(usize),
     Refused(Refusal),

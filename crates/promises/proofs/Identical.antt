@@ -143,8 +143,8 @@ pub reads-one : (ruling : Ruling Table) (old : List ℤ) (a b : Reading) (new ne
 reads-one ruling old a b new new′ m m′ =
     (one-reading a b (m .says ∙ sym (m′ .says)), m .holds ∙ sym (m′ .holds))
 
--- text out
-pub writes-one : (ruling : Ruling (List ℕ)) (old : List ℕ) (a b : Writing) (new new′ : List ℕ)
+-- text out, batch
+pub writes-one : {E : Type 0} (ruling : Ruling (List E)) (old : List E) (a b : Writing) (new new′ : List E)
     → Writes ruling a old new → Writes ruling b old new′ → (a ≡ b) × (new ≡ new′)
 writes-one ruling old a b new new′ m m′ =
     (one-writing a b (m .says ∙ sym (m′ .says)), m .holds ∙ sym (m′ .holds))

@@ -16,6 +16,6 @@ pub reads-untouched : {n : ℕ} {d : List ℕ} {a : Reading} {old new : List ℤ
     → Reads (refuse n d) a old new → new ≡ old
 reads-untouched m = m .holds
 
-pub writes-untouched : {n : ℕ} {d : List ℕ} {a : Writing} {old new : List ℕ}
+pub writes-untouched : {E : Type 0} {n : ℕ} {d : List ℕ} {a : Writing} {old new : List E}
     → Writes (refuse n d) a old new → new ≡ old
 writes-untouched m = m .holds

@@ -1,5 +1,5 @@
 use Rattle.rows.proofs.Signed.{number-back}
-use Rattle.batch.specs.Batch.{answered}
+use Rattle.paper.specs.Batch.{answered}
 use Rattle.batch.proofs.Minus.{at-most-14, minus-back}
 use native.Mathlib.Omega.{arith}
 use borrow.Author.Needs.{needs}

@@ -5,7 +5,7 @@ use Rattle.paper.specs.Rows.{table}
 use Rattle.paper.specs.Checks.{row-slice, plain}
 use Rattle.paper.specs.declared.Refusal.the-variants as refusal
 use Rattle.rows.proofs.Signed.{same}
-use Rattle.batch.specs.Batch.{window-lengths}
+use Rattle.paper.specs.Batch.{window-lengths}
 use Rattle.batch.proofs.Counts.{lengths-passed}
 use Rattle.batch.proofs.Batched.{
   refused,

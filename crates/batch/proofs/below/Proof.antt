@@ -1,7 +1,7 @@
 use mathlib.Core.Path.{_≡_, sym, ap, _∙_}
 use Prim.Native.Nat.{ℕ, _≤_}
 use Rattle.paper.specs.Answers.{number}
-use Rattle.batch.specs.Batch.{minus}
+use Rattle.paper.specs.Batch.{minus}
 use Rattle.batch.proofs.Minus.{at-most-14, number-fits, negation-fits, negation}
 use borrow.Author.Needs.{needs}
 use Rattle.batch.proofs.below.Statement.{statement}

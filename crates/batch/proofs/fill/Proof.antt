@@ -12,7 +12,6 @@ use Rattle.paper.specs.Rows.{table}
 use Rattle.rows.proofs.Signed.{same, back}
 use Rattle.rows.proofs.Judged.{plain-bounded}
 use Rattle.predict.specs.Seen.{Sound, checked}
-use Rattle.batch.specs.Batch.{answered}
 use Rattle.batch.proofs.Counts.{window-there, next-place, few-tokens}
 use Rattle.batch.proofs.Windows.{once-done, one-more, all-done}
 use borrow.Author.Needs.{needs}
@@ -74,9 +73,7 @@ loop-again c =
     let z = toZ w32 (ofZ w32 (c .window .result)) in
     let m = s .args .count - (l .loop .i + 1) in
     let f = checked (s .args .mode) (table (toZ w32 (ofZ w32 (s .args .prod0))) (s .args .k) (s .args .rows .now))
-    (s .args .stream) in
-    let w : z ≡ answered (f (take (s .args .k) (drop (l .loop .at) (s .args .tokens .now)))) =
-    back (c .window .result) (c .window .ok) ∙ c .window .ensures in (
+    (s .args .stream) in (
       omega arith,
       next-place (s .args .count) (l .loop .i) (s .args .k) (l .loop .at) (length (s .args .tokens .now))
           (omega arith) (v .1) (s .pre .1),
@@ -84,7 +81,7 @@ loop-again c =
       v .3
           ∙ ap (once-done f (s .args .k) (l .loop .answers) (drop (l .loop .at) (s .args .tokens .now)) (l .loop .i)) n
           ∙ one-more f (s .args .k) (l .loop .answers) (drop (l .loop .at) (s .args .tokens .now)) (l .loop .i) m z
-          (omega (arith, v .2)) w
+          (c .window .result) (omega (arith, v .2)) (back (c .window .result) (c .window .ok)) (c .window .ensures)
           ∙ ap (λ (rest : List ℕ). once-done f (s .args .k) (set (l .loop .answers) (l .loop .i) z) rest (l .loop .i + 1) m)
           (drop-drop (s .args .k) (l .loop .at) (s .args .tokens .now)),
     )

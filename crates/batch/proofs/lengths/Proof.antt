@@ -1,6 +1,6 @@
 use mathlib.Core.Path.{sym, _∙_}
 use borrow.Author.Tests.{lt-ltb, le-ltb}
-use Rattle.batch.specs.Batch.{window-lengths}
+use Rattle.paper.specs.Batch.{window-lengths}
 use borrow.Author.Needs.{needs}
 use Rattle.batch.proofs.lengths.Statement.{statement}
 use Rattle.batch.proofs.lengths.Tie as tie

@@ -5,7 +5,7 @@ use lib.ListN.{take, drop}
 use Rattle.paper.specs.Rows.{table}
 use Rattle.rows.proofs.Signed.{same, back}
 use Rattle.predict.specs.Seen.{checked}
-use Rattle.batch.specs.Batch.{answered}
+use Rattle.paper.specs.Batch.{answered}
 use borrow.Author.Needs.{needs}
 use Rattle.batch.proofs.window.Statement.{statement}
 use Rattle.batch.proofs.window.Tie as tie

@@ -1,5 +1,5 @@
 use Rattle.rows.proofs.Signed.{same}
-use Rattle.handed.proofs.Hands.{batch-hands}
+use Rattle.handed.proofs.Hands.{written-hands}
 use borrow.Author.Needs.{needs}
 use Rattle.exports.proofs.lookahead_batch.Statement.{statement}
 use Rattle.exports.proofs.lookahead_batch.Tie as tie
@@ -22,7 +22,7 @@ returns c =
     let m = rw (c .before .before .before .before .before .mode-of .ensures) at
     (c .before .before .before .batch .ensures) in
     let m = rw (same (s .args .prod0) (s .fits .prod0)) at m in
-    batch-hands _ _ _ _ _ _ m (c .wrote .ensures)
+    written-hands _ _ _ _ _ _ m (c .wrote .ensures)
 
 pub lookahead-batch-spec : {M : Type 1} → statement M
 lookahead-batch-spec =

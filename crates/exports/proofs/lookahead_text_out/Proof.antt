@@ -1,5 +1,5 @@
 use Rattle.rows.proofs.Signed.{same}
-use Rattle.handed.proofs.Hands.{text-hands}
+use Rattle.handed.proofs.Hands.{written-hands}
 use borrow.Author.Needs.{needs}
 use Rattle.exports.proofs.lookahead_text_out.Statement.{statement}
 use Rattle.exports.proofs.lookahead_text_out.Tie as tie
@@ -21,7 +21,7 @@ returns : tie.Need-returns
 returns c =
     let s = c .before .before .before .before .before .before .before in
     let m = rw (same (s .args .prod0) (s .fits .prod0)) at (c .before .before .before .before .text-out .ensures) in
-    text-hands _ _ _ _ _ _ m (c .wrote .ensures)
+    written-hands _ _ _ _ _ _ m (c .wrote .ensures)
 
 pub lookahead-text-out-spec : {M : Type 1} → statement M
 lookahead-text-out-spec = tie.close (tie.spec text-out-requires wrote-requires same-length returns)

@@ -5,13 +5,11 @@ use mathlib.Core.List.{List, [], _∷_, _++_}
 use lib.ListN.{length, take, drop}
 use lib.IntN.{ℤ, pos, negsuc}
 use lib.Dec.{eqb, ltb}
 use Rattle.paper.specs.declared.Mode.{Mode}
 use Rattle.paper.specs.Rows.{table}
-use Rattle.paper.specs.declared.Writing.{Writing}
-use mathlib.Core.Path.{_≡_}
-use Rattle.paper.specs.Answers.{Ruling, accept, refuse, then, output, wrote, Chosen}
+use Rattle.paper.specs.Answers.{Ruling, accept, refuse, Chosen}
 use Rattle.paper.specs.Checks.{first, row-slice, plain}
 use Rattle.paper.specs.Predict.{predict}
 
 -- Minus a number.
 unfoldable pub minus : ℕ → ℤ
@@ -38,8 +36,3 @@ unfoldable pub batch : Mode → ℤ → ℕ → List ℤ → ℕ → ℕ → Lis
 batch mode p k ns stream count tokens room =
     first ((row-slice ns || window-lengths k count (length tokens) room, 1) ∷ plain (table p k ns)
     ++ ((ltb stream k, 9) ∷ [])) (accept (each-window (predict mode p k ns stream) k count tokens))
-
--- The answer and the answer slice are what the ruling says.
-pub record Answers (ruling : Ruling (List ℤ)) (answer : Writing) (old new : List ℤ) : Type 0 where
-  pub says : wrote answer ≡ then ruling (λ b. accept (length b))
-  pub holds : new ≡ output (λ b. b) ruling old
