@@ -19,7 +19,8 @@ use Rattle.rows.proofs.Rest.{both, by-test}
 use Rattle.ruled.specs.Into.{Fitting, into-from, hangs, differs, leads}
 use Rattle.ruled.proofs.Somewhere.{any-none}
 use Rattle.ruled.proofs.Firsts.{First, into-any, into-row}
-use Rattle.ruled.proofs.Splits.{split-first, first-of, same-path}
+use Rattle.laws.proofs.Productions.{same-production-eq}
+use Rattle.ruled.proofs.Splits.{split-first, first-of}
 use Rattle.ruled.proofs.Once.{many, tree-as}
 use Rattle.ruled.proofs.Judging.{tree-rows}
 use Rattle.ruled.proofs.Passes.{Ruled, Tree}
@@ -53,7 +54,7 @@ module _ (p : ℤ) (k : ℕ) (ns : List ℤ) (r : Ruled (table p k ns)) (i : ℕ
   carries q =
       let e = any-none (differs (rows-in ns)) ns (sym (split-first ns) ∙ r .split) i h in
       let f = first-of ns i h (into-from 0 (rows-in ns) (row-at ns i .to)) refl .1 in
-      f .gives q ∙ sym (f .gives none) ∙ sym (same-path (row-at ns i .production) _ (not-false _ e))
+      f .gives q ∙ sym (f .gives none) ∙ sym (same-production-eq (row-at ns i .production) _ (not-false _ e))
 
 once-each : (rs : List Row) (n s : ℕ) → each-once rs n ≡ true → 0 < s → s ≤ n → rows-into rs s ≡ 1
 unfolding each-once

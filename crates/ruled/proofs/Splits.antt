@@ -13,6 +13,7 @@ use lib.IntN.{ℤ}
 use Rattle.paper.specs.Rows.{Row, rows-in}
 use Rattle.paper.specs.Checks.{any, same-production, split}
 use Rattle.paper.specs.Shrink.{production-of}
+use Rattle.laws.proofs.Productions.{same-production-eq, same-production-refl}
 use Rattle.rows.specs.Places.{row-at, bare, code}
 use Rattle.rows.proofs.Rest.{both, by-test}
 use Rattle.ruled.specs.Into.{into-from, Fitting, Marked, leads, differs}
@@ -27,17 +28,8 @@ code-same none (some q) = eqb·zero-suc q
 code-same (some p) none = eqb·suc-zero p
 code-same (some p) (some q) = eqb·suc-suc p q
 
-code-path : (p q : Option ℕ) → code p ≡ code q → p ≡ q
-code-path none none e = refl
-code-path none (some q) e = absurd (omega arith)
-code-path (some p) none e = absurd (omega arith)
-code-path (some p) (some q) e = let d : p ≡ q = omega arith in ap some d
-
-pub same-path : (p q : Option ℕ) → same-production p q ≡ true → p ≡ q
-same-path p q e = code-path p q (eqb-true (code p) (code q) (code-same p q ∙ e))
-
-pub path-same : (p q : Option ℕ) → p ≡ q → same-production p q ≡ true
-path-same p q e = sym (code-same p q) ∙ eq-eqb (code p) (code q) (ap code e)
+same-as : (p q : Option ℕ) → p ≡ q → same-production p q ≡ true
+same-as p q e = rw e (same-production-refl q)
 
 -- the first row into the state that row i leads into
 pub first-of : (ns : List ℤ) (i : ℕ) → i * 4 + 3 < length ns → (n : ℕ) → n ≡ into-from 0 (rows-in ns) (row-at ns i .to)
@@ -67,7 +59,7 @@ module _ (ns : List ℤ) where
   -- a row that does not differ has the production of its state
   agrees : (i : ℕ) → differs (rows-in ns) (row-at ns i) ≡ false
       → row-at ns i .production ≡ production-of none (rows-in ns) (row-at ns i .to)
-  agrees i e = same-path (row-at ns i .production) (production-of none (rows-in ns) (row-at ns i .to)) (not-false _ e)
+  agrees i e = same-production-eq (row-at ns i .production) (production-of none (rows-in ns) (row-at ns i .to)) (not-false _ e)
 
   -- of two rows apart, one differs
   one-differs : (i j : ℕ) → i * 4 + 3 < length ns → j * 4 + 3 < length ns → apart (row-at ns i) (row-at ns j) ≡ true
@@ -85,7 +77,7 @@ module _ (ns : List ℤ) where
       agrees j f
       ∙ ap (production-of none (rows-in ns)) (eqb-true (x .to) (r .to) (b .0))
       ∙ sym (agrees i d) in
-      absurd (false≢true (sym (not-true _ (b .1)) ∙ path-same (x .production) (r .production) q))))
+      absurd (false≢true (sym (not-true _ (b .1)) ∙ same-as (x .production) (r .production) q))))
 
   -- a row that differs is apart from the first into its state
   first-apart : (i : ℕ) → i * 4 + 3 < length ns → differs (rows-in ns) (row-at ns i) ≡ true
@@ -99,8 +91,8 @@ module _ (ns : List ℤ) where
       let b = same-production (x .production) (r .production) in
       let d : b ≡ false = by-test b
       (λ s. absurd (false≢true (sym (not-true _ e)
-      ∙ path-same (r .production) (production-of none (rows-in ns) (r .to))
-      (sym (same-path (x .production) (r .production) s) ∙ sym (f .gives none)))))
+      ∙ same-as (r .production) (production-of none (rows-in ns) (r .to))
+      (sym (same-production-eq (x .production) (r .production) s) ∙ sym (f .gives none)))))
       (λ s. s) in
       place-any (apart r) ns (record { at = j; there = f .there; passes = rw (t, d) })
 

@@ -142,11 +142,11 @@ same-end ls ls′ o (united {m} u) (clashed {p} {q} c) =
 same-end ls ls′ o (clashed {p} {q} c) (united {m} u) = absurd (no-conflict ls′ m u p q (conflict-same ls ls′ o p q c))
 same-end ls ls′ o (clashed c) (clashed c′) = both-clashed
 
--- Lists within bounds, in one order and in another.
-pub any-order : (l : Opening) (ls : List Opening) (l′ : Opening) (ls′ : List Opening) →
+-- Lists within bounds, built and united in one order and in another: the same openings, k, state count and predictions.
+pub united-in-any-order : (l : Opening) (ls : List Opening) (l′ : Opening) (ls′ : List Opening) →
     Reordered (l ∷ ls) (l′ ∷ ls′) → ((m : Opening) → In m (l ∷ ls) → Bounded m) →
     length (distinct (all-beginnings (l ∷ ls))) ≤ 1024 → Same-end (chain l ls) (chain l′ ls′)
-any-order l ls l′ ls′ o bd bound =
+united-in-any-order l ls l′ ls′ o bd bound =
     same-end (l ∷ ls) (l′ ∷ ls′) o (chain-good l ls bd bound)
     (chain-good l′ ls′ (λ m i. bd m (o .back m i)) (omega (arith, bound, beginnings-same (l ∷ ls) (l′ ∷ ls′) o)))
 
