@@ -4,13 +4,14 @@ use mathlib.Core.Bool.{Bool, true, false}
 use mathlib.Core.Option.{Option}
 use mathlib.Core.List.{List, _∷_, []}
 use Prim.Native.Nat.{ℕ, _<_, _^_}
-use lib.ListN.{length}
+use lib.ListN.{length, getD}
 use lib.IntN.{ℤ}
 use lib.Signed.{mag}
 use mir.Syntax.{w32}
 use mir.Val.{toZ, ofZ}
 use Rattle.laws.proofs.RowNumbers.{accepting-signed}
 use Rattle.paper.specs.declared.Refusal.{Refusal}
+use Rattle.paper.specs.declared.Refusal.the-variants as refusal
 use Rattle.paper.specs.declared.Making.{Making}
 use Rattle.paper.specs.declared.Reading.{Reading}
 use Rattle.paper.specs.declared.Writing.{Writing}
@@ -22,6 +23,7 @@ use Rattle.paper.specs.Answers.{
   refuse,
   then,
   number,
+  detail,
   made,
   heard,
   wrote,
@@ -59,6 +61,27 @@ first-is l a b vs e d = e ∙ ap (λ (x : ℕ). x ∷ vs) d
 -- and the second
 pub second-is : (l : List ℕ) (x a b : ℕ) (vs : List ℕ) → l ≡ x ∷ a ∷ vs → a ≡ b → l ≡ x ∷ b ∷ vs
 second-is l x a b vs e d = e ∙ ap (λ (y : ℕ). x ∷ y ∷ vs) d
+
+by-detail : (f : Refusal) → getD (detail f) 0 0 ∷ getD (detail f) 1 0 ∷ 0 ∷ 0 ∷ [] ≡ four (detail f)
+by-detail refusal.Length = refl
+by-detail refusal.Range = refl
+by-detail refusal.Order = refl
+by-detail refusal.Shape = refl
+by-detail refusal.Loose = refl
+by-detail refusal.Split = refl
+by-detail refusal.Tree = refl
+by-detail (refusal.Clash p q) = refl
+by-detail refusal.Mismatch = refl
+by-detail refusal.Short = refl
+by-detail refusal.None = refl
+by-detail refusal.Root = refl
+by-detail (refusal.Text at) = refl
+by-detail refusal.Full = refl
+
+-- a detail's two numbers are all of it
+pub two-of : (f : Refusal) (l : List ℕ) (a b : ℕ) → l ≡ a ∷ b ∷ 0 ∷ 0 ∷ [] → a ≡ getD (detail f) 0 0 →
+    b ≡ getD (detail f) 1 0 → l ≡ four (detail f)
+two-of f l a b e d g = e ∙ rw (d, g) (by-detail f)
 
 -- values by way of what an answer holds
 hand-over : {A B : Type 0} (g : Ruling A) (x : Ruling B) (h : A → B) (f : A → List ℕ) (e : B → List ℕ) (r : ℕ)

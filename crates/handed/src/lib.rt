@@ -8,6 +8,7 @@ use paper::Refusal;
 use paper::Writing;
 ghost use mathlib.Core.Path.{_≡_};
 ghost use mathlib.Core.List.{[], _∷_};
+ghost use lib.ListN.{getD};
 ghost use Rattle.paper.specs.Answers.{number, detail, made, predicted, explained, heard, wrote};
 ghost use Rattle.handed.specs.Handed.{mode-of, four, of-heading, of-title, of-chosen, of-count, Hands};
 
@@ -29,34 +30,56 @@ pub fn put(answer: &mut [u64; 4], a: u64, b: u64, c: u64, d: u64)
     *answer = [a, b, c, d];
 }
 
-// A refusal's number with two values.
-fn given(answer: &mut [u64; 4], number: usize, a: u64, b: u64) -> usize
-    ensures { λ r. ⌜ (r ≡ number) × (now (answer .exit) ≡ a ∷ b ∷ 0 ∷ 0 ∷ []) ⌝ }
+// The first number of a refusal's detail; 0 where there is none.
+fn first_detail(f: Refusal) -> u64
+    ensures { λ r. ⌜ r ≡ getD (detail f) 0 0 ⌝ }
 {
-    put(answer, a, b, 0, 0);
-    number
+    match f {
+        Refusal::Length => 0,
+        Refusal::Range => 0,
+        Refusal::Order => 0,
+        Refusal::Shape => 0,
+        Refusal::Loose => 0,
+        Refusal::Split => 0,
+        Refusal::Tree => 0,
+        Refusal::Clash(p, _) => p.0 as u64,
+        Refusal::Mismatch => 0,
+        Refusal::Short => 0,
+        Refusal::None => 0,
+        Refusal::Root => 0,
+        Refusal::Text(at) => at as u64,
+        Refusal::Full => 0,
+    }
+}
+
+// The second; only 8 has one.
+fn second_detail(f: Refusal) -> u64
+    ensures { λ r. ⌜ r ≡ getD (detail f) 1 0 ⌝ }
+{
+    match f {
+        Refusal::Length => 0,
+        Refusal::Range => 0,
+        Refusal::Order => 0,
+        Refusal::Shape => 0,
+        Refusal::Loose => 0,
+        Refusal::Split => 0,
+        Refusal::Tree => 0,
+        Refusal::Clash(_, q) => q.0 as u64,
+        Refusal::Mismatch => 0,
+        Refusal::Short => 0,
+        Refusal::None => 0,
+        Refusal::Root => 0,
+        Refusal::Text(_) => 0,
+        Refusal::Full => 0,
+    }
 }
 
 // A refusal: its number, and the detail of 8 and 13 as values.
 fn refused(f: Refusal, answer: &mut [u64; 4]) -> usize
     ensures { λ r. ⌜ (r ≡ number f) × (now (answer .exit) ≡ four (detail f)) ⌝ }
 {
-    match f {
-        Refusal::Length => given(answer, 1, 0, 0),
-        Refusal::Range => given(answer, 2, 0, 0),
-        Refusal::Order => given(answer, 3, 0, 0),
-        Refusal::Shape => given(answer, 4, 0, 0),
-        Refusal::Loose => given(answer, 5, 0, 0),
-        Refusal::Split => given(answer, 6, 0, 0),
-        Refusal::Tree => given(answer, 7, 0, 0),
-        Refusal::Clash(p, q) => given(answer, 8, p.0 as u64, q.0 as u64),
-        Refusal::Mismatch => given(answer, 9, 0, 0),
-        Refusal::Short => given(answer, 10, 0, 0),
-        Refusal::None => given(answer, 11, 0, 0),
-        Refusal::Root => given(answer, 12, 0, 0),
-        Refusal::Text(at) => given(answer, 13, at as u64, 0),
-        Refusal::Full => given(answer, 14, 0, 0),
-    }
+    put(answer, first_detail(f), second_detail(f), 0, 0);
+    f.number()
 }
 
 // A made table: prod0 plus one, k, the row count, the state count.
