@@ -1,10 +1,9 @@
 // The lists as they are lent: their sums.
 ghost use mathlib.Core.Path.{_≡_};
-ghost use Prim.Native.Nat.{_≤_};
 ghost use lib.Dec.{eqb};
 ghost use lib.ListN.{length};
 ghost use Rattle.paper.specs.Build.{sum};
-ghost use Rattle.intake.specs.Call.{lists-lengths};
+ghost use Rattle.lists.specs.Call.{lists-lengths};
 
 // The numbers sum to a count; no sum is made that could pass it.
 fn sums(numbers: &[usize], count: usize) -> bool
@@ -47,18 +46,4 @@ pub fn lengths(
         return true;
     }
     !sums(lengths, tokens.len())
-}
-
-// What the lengths of a list sum to, which has that many tokens.
-pub fn total(lengths: &[usize], tokens: &[u16]) -> usize
-    requires { ⌜ sum (now lengths) ≤ length (now tokens) ⌝ }
-    ensures { λ r. ⌜ r ≡ sum (now (lengths .entry)) ⌝ }
-{
-    let mut n = 0;
-    let mut i = 0;
-    while i < lengths.len() {
-        n += lengths[i];
-        i += 1;
-    }
-    n
 }

@@ -3,13 +3,12 @@ use paper::Making;
 use paper::Refusal;
 
 mod checks;
-mod steps;
 
 ghost use lib.ListN.{length};
 ghost use Rattle.paper.specs.Answers.{then, Makes};
 ghost use Rattle.promises.specs.Demand.{shrink-made};
-ghost use Rattle.intake.specs.Call.{lists-in, unite-all, table-of};
-ghost use Rattle.intake.specs.Held.{Passed};
+ghost use Rattle.lists.specs.Call.{lists-in, unite-all, table-of};
+ghost use Rattle.lists.specs.Held.{Passed};
 
 // The lists united in arrays of their own, and the shrunk table's rows at the front of the output.
 // Held on the stack: two arrays of 16 KiB for the tables that are united, and one of 64 KiB, the length that build and
@@ -28,7 +27,7 @@ fn shrunk(
     let mut a = [0i32; 4096];
     let mut b = [0i32; 4096];
     let mut work = [0i32; 16384];
-    let united = steps::unite_all(
+    let united = joining::unite_all(
         productions,
         counts,
         lengths,
@@ -42,7 +41,7 @@ fn shrunk(
 
 // The lists built, united one after the other and shrunk, all in intake mode. List i has the production
 // productions[i] and counts[i] strings; their lengths follow one another in lengths, their tokens in tokens.
-// Demand 3 of this call is `intake-answers` of proofs/Demand.antt, by way of `intake-demand3`; that the order of the
+// Demand 3 of this call is `intake-answers` of crates/lists/proofs/Demand.antt, by way of `intake-demand3`; that the order of the
 // lists changes no answer is `intake-any-order`.
 pub fn shrunk_table(
     productions: &[i32],
