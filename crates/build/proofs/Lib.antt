@@ -1,7 +1,1 @@
-pub mod Totals
-pub mod Entered
-pub mod Walked
-pub mod Codes
-pub mod Checked
-pub mod Listed
 pub mod Answering

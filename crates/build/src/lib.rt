@@ -1,7 +1,4 @@
 // Document 01, module 2: build.
-pub mod checks;
-pub mod strings;
-
 use paper::Making;
 use paper::Production;
 use paper::Refusal;
@@ -11,7 +8,7 @@ ghost use mathlib.Core.Path.{_≡_};
 ghost use lib.ListN.{length};
 ghost use Rattle.paper.specs.Answers.{Makes};
 ghost use Rattle.paper.specs.Build.{within, built, strings, build};
-ghost use Rattle.build.specs.Sane.{Sane};
+ghost use Rattle.build_checks.specs.Sane.{Sane};
 
 // The strings in an array of its own, and their rows at the front of the output.
 fn written(production: Production, tokens: &[u16], lengths: &[usize], out: &mut [i32]) -> Making
@@ -20,7 +17,7 @@ fn written(production: Production, tokens: &[u16], lengths: &[usize], out: &mut 
         r (now (out .entry)) (now (out .exit)) ⌝ }
 {
     let mut buf = [0i32; 4608];
-    let made = strings::add_strings(&mut buf, production, tokens, lengths);
+    let made = strings::add_all(&mut buf, production, tokens, lengths);
     match made {
         Table::Full => Making::Refused(Refusal::Full),
         Table::Rows { lo, rows, code, k } => grow::finish(&buf, lo, rows, code, k, out),
@@ -32,10 +29,10 @@ pub fn build(production: i32, tokens: &[u16], lengths: &[usize], out: &mut [i32]
     ensures { λ r. ⌜ Makes (build production (now (tokens .entry)) (now (lengths .entry)) (length (now (out .entry))))
         r (now (out .entry)) (now (out .exit)) ⌝ }
 {
-    if checks::lengths(tokens, lengths, out.len()) {
+    if build_checks::lengths(tokens, lengths, out.len()) {
         return Making::Refused(Refusal::Length);
     }
-    if checks::range(production, lengths) {
+    if build_checks::range(production, lengths) {
         return Making::Refused(Refusal::Range);
     }
     let q = numbers::natural(production) as u16;

@@ -1,26 +1,6 @@
-// The lists as they are lent: their sums.
+// Check 1 of the lists as they are lent.
 ghost use mathlib.Core.Path.{_≡_};
-ghost use lib.Dec.{eqb};
-ghost use lib.ListN.{length};
-ghost use Rattle.paper.specs.Build.{sum};
 ghost use Rattle.lists.specs.Call.{lists-lengths};
-
-// The numbers sum to a count; no sum is made that could pass it.
-fn sums(numbers: &[usize], count: usize) -> bool
-    ensures { λ r. ⌜ r ≡ eqb (sum (now (numbers .entry))) count ⌝ }
-{
-    let mut left = count;
-    let mut i = 0;
-    while i < numbers.len() {
-        let n = numbers[i];
-        if left < n {
-            return false;
-        }
-        left -= n;
-        i += 1;
-    }
-    left == 0
-}
 
 // 1 LENGTH.
 pub fn lengths(
@@ -42,8 +22,8 @@ pub fn lengths(
     if productions.len() != counts.len() {
         return true;
     }
-    if !sums(counts, lengths.len()) {
+    if !build_checks::sums(counts, lengths.len()) {
         return true;
     }
-    !sums(lengths, tokens.len())
+    !build_checks::sums(lengths, tokens.len())
 }

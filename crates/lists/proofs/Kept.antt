@@ -24,7 +24,7 @@ use Rattle.paper.specs.Unite.{unite}
 use Rattle.trees.proofs.Accepted.{check-passed, within-accepted, unite-sound}
 use Rattle.trees.proofs.Calls.{sound-size}
 use Rattle.trees.proofs.Fits.{none-fits, some-fits, range-fits, root-give}
-use Rattle.build.proofs.Checked.{production-in}
+use Rattle.build_checks.proofs.Checked.{production-in}
 use Rattle.lists.specs.Held.{held, Few, Holds}
 
 -- an accepting answer accepts

@@ -7,7 +7,7 @@ use native.Mathlib.Numerals.{add-one}
 use lib.ListN.{length, getD, take, drop, length-drop}
 use lib.Seq.{drop-cons, take-all}
 use lib.IntN.{ℤ, pos}
-use Rattle.build.proofs.Totals.{sum-next}
+use Rattle.build_checks.proofs.Totals.{sum-next}
 use Rattle.paper.specs.Answers.{Ruling, accept, refuse, then, Made}
 use Rattle.paper.specs.Build.{sum}
 use Rattle.lists.specs.Call.{Lent, lists-in, join-lent, join-all}

@@ -31,7 +31,7 @@ use Rattle.grow.proofs.Fronts.{front-read}
 use Rattle.grow.proofs.Answered.{within-full}
 use Rattle.trees.proofs.Tree.{Tree}
 use Rattle.unite.specs.Whole.{Passes}
-use Rattle.unite.specs.Taking.{
+use Rattle.taking.specs.Taking.{
   all-rows,
   Unites,
   Clashes,
@@ -42,7 +42,7 @@ use Rattle.unite.specs.Taking.{
   Treed,
   joining,
 }
-use Rattle.unite.specs.declared.taking.Union.{Union}
+use Rattle.taking.specs.declared.Union.{Union}
 
 -- ---- the rows
 module _ (mode : Mode) (xs ys : List Row) where

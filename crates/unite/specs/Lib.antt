@@ -1,4 +1,1 @@
-pub mod Met
-pub mod Taking
-pub mod Looking
 pub mod Whole

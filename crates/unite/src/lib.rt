@@ -1,8 +1,4 @@
 // Document 01, module 3: unite.
-pub mod meet;
-pub mod scan;
-pub mod taking;
-
 use meet::Meet;
 use paper::Making;
 use paper::Mode;
@@ -18,7 +14,7 @@ ghost use Rattle.paper.specs.Answers.{Makes};
 ghost use Rattle.paper.specs.Checks.{first, tree};
 ghost use Rattle.paper.specs.Unite.{united, unite};
 ghost use Rattle.rows.specs.Places.{uncoded};
-ghost use Rattle.unite.specs.Taking.{Treed, Overflows, Refuses, joining};
+ghost use Rattle.taking.specs.Taking.{Treed, Overflows, Refuses, joining};
 ghost use Rattle.unite.specs.Whole.{Passes, Sized};
 
 // The rows do not fit: CLASH, wherever it stands, comes before 14.

@@ -9,23 +9,21 @@ use Rattle.paper.specs.Rows.{natural}
 use Rattle.paper.specs.Build.{build-range}
 use Rattle.rows.specs.Places.{Reads}
 use Rattle.rows.proofs.Signed.{same, read-passed}
-use Rattle.build.proofs.Checked.{production-in, sane}
+use Rattle.build_checks.proofs.Checked.{production-in, sane}
 use Rattle.build.proofs.Answering.{refused-lengths, refused-range, accepted}
 use borrow.Author.Needs.{needs}
 use Rattle.build.proofs.build.Statement.{statement}
 use Rattle.build.proofs.build.Tie as tie
 use Rattle.build.proofs.build.Reads as reads
 use Rattle.build.proofs.build.Lts as lts
-use Rattle.build.proofs.checks.lengths.Reads as lengths-reads
-use Rattle.build.proofs.checks.range.Reads as range-reads
+use Rattle.build_checks.proofs.lengths.Reads as lengths-reads
+use Rattle.build_checks.proofs.range.Reads as range-reads
 use Rattle.build.proofs.written.Reads as written-reads
 use Rattle.rows.proofs.numbers.natural.Reads as natural-reads
 
--- src/lib.rt:42:8
 lengths-requires : tie.Need-lengths-requires
 lengths-requires c κs = search needs
 
--- src/lib.rt:43:9
 returns : tie.Need-returns
 returns c =
     let s = c .before .before .before .before in
@@ -33,7 +31,6 @@ returns c =
     refused-lengths (a .production) (a .tokens .now) (a .lengths .now) (length (a .out .now)) (a .out .now)
     (sym (c .before .lengths .ensures) ∙ c .if1 .taken)
 
--- src/lib.rt:45:8
 range-requires : tie.Need-range-requires
 range-requires c κs = search needs
 
@@ -50,7 +47,6 @@ ranged c e =
     (same (s .args .production) (s .fits .production)))
     ∙ e
 
--- src/lib.rt:46:9
 returns-2 : tie.Need-returns-2
 returns-2 c =
     let e = c .before .before in
@@ -59,11 +55,9 @@ returns-2 c =
     refused-range (a .production) (a .tokens .now) (a .lengths .now) (length (a .out .now)) (a .out .now)
     (first-left e) (ranged (c .before) (c .if2 .taken))
 
--- src/lib.rt:48:13
 natural-requires : tie.Need-natural-requires
 natural-requires c κs = search needs
 
--- src/lib.rt:48:13
 cast-q : tie.Need-cast-q
 cast-q c =
     let r = c .before .before in
@@ -72,7 +66,6 @@ cast-q c =
     let n = read-passed natural (a .production) _ (s .fits .production) (c .natural .ensures) in
     omega (arith, n .is, production-in (a .production) (a .lengths .now) (ranged r (c .before .if2 .left)))
 
--- src/lib.rt:49:5
 written-requires : tie.Need-written-requires
 written-requires c κs =
     let n = c .before in
@@ -83,11 +76,9 @@ written-requires c κs =
     sane (a .production) (a .tokens .now) (a .lengths .now) (length (a .out .now)) (first-left e)
     (ranged r (n .before .if2 .left))
 
--- src/lib.rt:38:1
 same-length : tie.Need-same-length
 same-length c = search needs
 
--- src/lib.rt:38:1
 returns-3 : tie.Need-returns-3
 returns-3 c =
     let n = c .before .before .before in

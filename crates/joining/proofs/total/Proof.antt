@@ -5,7 +5,7 @@ use native.Mathlib.Omega.{arith}
 use lib.ListN.{length, drop}
 use borrow.Author.Needs.{needs}
 use Rattle.paper.specs.Build.{sum}
-use Rattle.build.proofs.Totals.{sum-next, sum-end}
+use Rattle.build_checks.proofs.Totals.{sum-next, sum-end}
 use Rattle.joining.proofs.total.Statement.{statement}
 use Rattle.joining.proofs.total.Tie as tie
 

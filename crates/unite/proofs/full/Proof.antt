@@ -6,21 +6,17 @@ use Rattle.unite.proofs.full.Statement.{statement}
 use Rattle.unite.proofs.full.Tie as tie
 use Rattle.unite.proofs.full.Reads as reads
 use Rattle.unite.proofs.full.Lts as lts
-use Rattle.unite.proofs.scan.clash.Reads as clash-reads
+use Rattle.scan.proofs.clash.Reads as clash-reads
 
--- src/lib.rt:29:9
 clash-requires : tie.Need-clash-requires
 clash-requires c κs = (c .before .pre .0, c .before .pre .1, clear)
 
--- src/lib.rt:31:21
 enum-known-found : tie.Need-enum-known-found
 enum-known-found c = search needs
 
--- src/lib.rt:32:39
 enum-told : tie.Need-enum-told
 enum-told c = search needs
 
--- src/lib.rt:24:1
 returns : tie.Need-returns
 returns c =
     let s = c .before .before .before .before .before in
@@ -28,7 +24,6 @@ returns c =
     clash-refuses (a .mode) (rows-in (a .a .now)) (rows-in (a .b .now)) _ _
     (rw (c .before .found .given .1) at (c .before .before .before .clash .ensures))
 
--- src/lib.rt:24:1
 returns-2 : tie.Need-returns-2
 returns-2 c =
     let s = c .before .before .before .before in

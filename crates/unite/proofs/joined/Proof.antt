@@ -7,8 +7,8 @@ use Rattle.rows.specs.Places.{uncoded}
 use Rattle.grow.specs.Held.{view}
 use Rattle.ruled.proofs.Arrays.{clear}
 use Rattle.trees.proofs.Tree.{Tree}
-use Rattle.unite.specs.Taking.{United-rows}
-use Rattle.unite.specs.declared.taking.Union.{Union}
+use Rattle.taking.specs.Taking.{United-rows}
+use Rattle.taking.specs.declared.Union.{Union}
 use Rattle.unite.proofs.Outcomes.{clash-refuses, rows-make, union-as, copied-laid, copied-rows}
 use borrow.Author.Needs.{needs}
 use Rattle.unite.proofs.joined.Statement.{statement}
@@ -18,17 +18,14 @@ use Rattle.unite.proofs.joined.Lts as lts
 use Rattle.grow.proofs.copy_rows.Reads as copy-rows-reads
 use Rattle.grow.proofs.finish.Reads as finish-reads
 use Rattle.unite.proofs.full.Reads as full-reads
-use Rattle.unite.proofs.taking.take_rows.Reads as take-rows-reads
+use Rattle.taking.proofs.take_rows.Reads as take-rows-reads
 
--- src/lib.rt:44:25
 slice-aggregate-copy-rows : tie.Need-slice-aggregate-copy-rows
 slice-aggregate-copy-rows c = search needs
 
--- src/lib.rt:44:5
 copy-rows-requires : tie.Need-copy-rows-requires
 copy-rows-requires c κs = search needs
 
--- src/lib.rt:45:41
 slice-aggregate-take-rows : tie.Need-slice-aggregate-take-rows
 slice-aggregate-take-rows c = search needs
 
@@ -47,7 +44,6 @@ ended c x e =
     (copied-rows (a .a .now) _ (view (f .copy-rows .last .1 .0) 128) (s .pre .0) (f .copy-rows .ensures) (long f)) e
     (c .take-rows .ensures)
 
--- src/lib.rt:45:9
 take-rows-requires : tie.Need-take-rows-requires
 take-rows-requires c κs =
     let f = c .before .before .before in
@@ -61,30 +57,24 @@ take-rows-requires c κs =
       clear,
     )
 
--- src/lib.rt:47:22
 enum-known-union : tie.Need-enum-known-union
 enum-known-union c = search needs
 
--- src/lib.rt:48:24
 enum-told : tie.Need-enum-told
 enum-told c = search needs
 
--- src/lib.rt:48:24
 full-requires : tie.Need-full-requires
 full-requires c κs =
     let t = c .before .before .before in
     let s = t .before .before .before .before .before .before in
     (s .pre .0, s .pre .1, ended t _ (c .enum-told .given .1))
 
--- src/lib.rt:49:21
 enum-known-union-2 : tie.Need-enum-known-union-2
 enum-known-union-2 c = search needs
 
--- src/lib.rt:49:40
 slice-aggregate-finish : tie.Need-slice-aggregate-finish
 slice-aggregate-finish c = search needs
 
--- src/lib.rt:49:27
 finish-requires : tie.Need-finish-requires
 finish-requires c κs =
     let t = c .before .before .before .before .before .before in
@@ -92,7 +82,6 @@ finish-requires c κs =
     let u = ended t _ (c .before .before .before .union2 .given .1) in
     (u .laid, s .pre .2, s .pre .3)
 
--- src/lib.rt:37:1
 returns : tie.Need-returns
 returns c =
     let t = c .before .before .before .before in
@@ -101,18 +90,15 @@ returns c =
     clash-refuses (a .mode) (rows-in (a .a .now)) (rows-in (a .b .now)) _ _ (ended t _ (c .before .union .given .1))
     .is (uncoded (a .code)) (a .k) (a .out .now)
 
--- src/lib.rt:37:1
 returns-2 : tie.Need-returns-2
 returns-2 c =
     let s = c .before .before .before .before .before .before .before .before .before .before in
     let a = s .args in
     c .full .ensures .is (uncoded (a .code)) (a .k) (a .out .now)
 
--- src/lib.rt:37:1
 same-length : tie.Need-same-length
 same-length c = search needs
 
--- src/lib.rt:37:1
 returns-3 : tie.Need-returns-3
 returns-3 c =
     let k = c .before .before .before .before in

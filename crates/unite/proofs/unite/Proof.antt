@@ -24,11 +24,9 @@ use Rattle.rows.proofs.checks.row_slice.Reads as row-slice-reads
 use Rattle.ruled.proofs.verdict.tree.Reads as tree-reads
 use Rattle.unite.proofs.with_second.Reads as with-second-reads
 
--- src/lib.rt:112:8
 row-slice-requires : tie.Need-row-slice-requires
 row-slice-requires c κs = search needs
 
--- src/lib.rt:113:9
 returns : tie.Need-returns
 returns c =
     let s = c .before .before in
@@ -37,7 +35,6 @@ returns c =
     (a .out .now)
     (sym (c .before .row-slice .ensures) ∙ c .if1 .taken)
 
--- src/lib.rt:115:8
 row-slice-requires-2 : tie.Need-row-slice-requires-2
 row-slice-requires-2 c κs = search needs
 
@@ -48,7 +45,6 @@ first-left c = sym (c .before .row-slice .ensures) ∙ c .if1 .left
 second-left : (c : tie.Else2) → row-slice (c .before .before .before .before .args .b .now) ≡ false
 second-left c = sym (c .before .row-slice2 .ensures) ∙ c .if2 .left
 
--- src/lib.rt:116:9
 returns-2 : tie.Need-returns-2
 returns-2 c =
     let e = c .before .before in
@@ -58,7 +54,6 @@ returns-2 c =
     (a .out .now)
     (first-left e) (sym (c .before .row-slice2 .ensures) ∙ c .if2 .taken)
 
--- src/lib.rt:119:9
 returns-3 : tie.Need-returns-3
 returns-3 c =
     let e = c .before in
@@ -68,21 +63,17 @@ returns-3 c =
     (a .out .now)
     (first-left (e .before .before)) (second-left e) (c .if3 .taken)
 
--- src/lib.rt:121:9
 tree-requires : tie.Need-tree-requires
 tree-requires c κs =
     let e = c .before in
     sized _ (first-left (e .before .before)) .few
 
--- src/lib.rt:123:26
 enum-known-verdict : tie.Need-enum-known-verdict
 enum-known-verdict c = search needs
 
--- src/lib.rt:124:74
 enum-told : tie.Need-enum-told
 enum-told c = search needs
 
--- src/lib.rt:124:26
 with-second-requires : tie.Need-with-second-requires
 with-second-requires c κs =
     let d = c .before in
@@ -99,7 +90,6 @@ with-second-requires c κs =
       t .before .if3 .left,
     )
 
--- src/lib.rt:99:1
 returns-4 : tie.Need-returns-4
 returns-4 c =
     let t = c .before .before .before in
@@ -113,11 +103,9 @@ returns-4 c =
     (judges-as (a .ka) (a .a .now) (same (a .prod0a) (s .fits .prod0a)) (c .before .verdict .given .1)
     (t .tree .ensures)))
 
--- src/lib.rt:99:1
 same-length : tie.Need-same-length
 same-length c = search needs
 
--- src/lib.rt:99:1
 returns-5 : tie.Need-returns-5
 returns-5 c =
     let d = c .before .before .before in

@@ -5,10 +5,10 @@ use Rattle.paper.specs.Rows.{accepting, table}
 use Rattle.paper.specs.Unite.{root}
 use Rattle.rows.specs.Places.{code, uncoded}
 use Rattle.rows.proofs.Signed.{read-passed}
-use Rattle.unite.specs.Met.{Meets}
-use Rattle.unite.specs.declared.meet.Meet.{Meet}
+use Rattle.meet.specs.Met.{Meets}
+use Rattle.meet.specs.declared.Meet.{Meet}
 use Rattle.rows.proofs.Codes.{uncoded-code}
-use Rattle.unite.proofs.Meets.{meets-as}
+use Rattle.meet.proofs.Meets.{meets-as}
 use Rattle.unite.proofs.Passing.{prod0-in, treed}
 use Rattle.unite.proofs.Outcomes.{root-refuses, root-makes}
 use borrow.Author.Needs.{needs}
@@ -18,14 +18,12 @@ use Rattle.unite.proofs.united.Reads as reads
 use Rattle.unite.proofs.united.Lts as lts
 use Rattle.rows.proofs.numbers.coded.Reads as coded-reads
 use Rattle.unite.proofs.joined.Reads as joined-reads
-use Rattle.unite.proofs.meet.root.Reads as root-reads
-use Rattle.unite.proofs.meet.united_k.Reads as united-k-reads
+use Rattle.meet.proofs.root.Reads as root-reads
+use Rattle.meet.proofs.united_k.Reads as united-k-reads
 
--- src/lib.rt:68:33
 coded-requires : tie.Need-coded-requires
 coded-requires c κs = search needs
 
--- src/lib.rt:68:57
 coded-requires-2 : tie.Need-coded-requires-2
 coded-requires-2 c κs = search needs
 
@@ -49,7 +47,6 @@ rooted c x e =
     let q = ap uncoded (second-code d) ∙ uncoded-code (accepting (a .prod0b)) in
     meets-as (λ j. root (a .mode) (p j) (q j)) e (c .root .ensures)
 
--- src/lib.rt:68:9
 root-requires : tie.Need-root-requires
 root-requires c κs =
     let s = c .before .before in
@@ -58,19 +55,15 @@ root-requires c κs =
       omega (arith, second-code c, prod0-in (a .prod0b) (a .kb) (a .b .now) (s .pre .1)),
     )
 
--- src/lib.rt:70:21
 enum-known-root : tie.Need-enum-known-root
 enum-known-root c = search needs
 
--- src/lib.rt:71:20
 enum-known-root-2 : tie.Need-enum-known-root-2
 enum-known-root-2 c = search needs
 
--- src/lib.rt:71:48
 united-k-requires : tie.Need-united-k-requires
 united-k-requires c κs = search needs
 
--- src/lib.rt:71:29
 joined-requires : tie.Need-joined-requires
 joined-requires c κs =
     let m = c .before .before .before in
@@ -83,7 +76,6 @@ joined-requires c κs =
       s .pre .2,
     )
 
--- src/lib.rt:54:1
 returns : tie.Need-returns
 returns c =
     let r = c .before .before .before in
@@ -93,11 +85,9 @@ returns c =
     (a .out .now) _ _
     (rooted r _ (c .before .root2 .given .1))
 
--- src/lib.rt:54:1
 same-length : tie.Need-same-length
 same-length c = search needs
 
--- src/lib.rt:54:1
 returns-2 : tie.Need-returns-2
 returns-2 c =
     let u = c .before .before .before in

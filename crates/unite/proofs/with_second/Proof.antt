@@ -18,19 +18,15 @@ use Rattle.unite.proofs.with_second.Lts as lts
 use Rattle.ruled.proofs.verdict.tree.Reads as tree-reads
 use Rattle.unite.proofs.united.Reads as united-reads
 
--- src/lib.rt:91:9
 tree-requires : tie.Need-tree-requires
 tree-requires c κs = search needs
 
--- src/lib.rt:93:26
 enum-known-verdict : tie.Need-enum-known-verdict
 enum-known-verdict c = search needs
 
--- src/lib.rt:94:69
 enum-told : tie.Need-enum-told
 enum-told c = search needs
 
--- src/lib.rt:94:26
 united-requires : tie.Need-united-requires
 united-requires c κs =
     let e = c .before in
@@ -47,7 +43,6 @@ united-requires c κs =
       s .pre .2,
     )
 
--- src/lib.rt:76:1
 returns : tie.Need-returns
 returns c =
     let t = c .before .before .before in
@@ -57,11 +52,9 @@ returns c =
     (judges-as (a .kb) (a .b .now) (same (a .prod0b) (s .fits .prod0b)) (c .before .verdict .given .1)
     (t .tree .ensures))
 
--- src/lib.rt:76:1
 same-length : tie.Need-same-length
 same-length c = search needs
 
--- src/lib.rt:76:1
 returns-2 : tie.Need-returns-2
 returns-2 c =
     let e = c .before .before .before in

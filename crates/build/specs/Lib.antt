@@ -1,2 +1,0 @@
-pub mod Sane
-pub mod Steps
