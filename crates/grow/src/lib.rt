@@ -1,8 +1,4 @@
 // Rows that grow: n rows stand in a lent array from row lo on, and a new row moves the fewer of them, up or down.
-mod down;
-mod ends;
-mod up;
-
 use paper::Making;
 use paper::State;
 use paper::Terminal;
@@ -14,8 +10,8 @@ ghost use Prim.Native.Nat.{_+_, _*_, _<_, _≤_, max};
 ghost use lib.ListN.{length};
 ghost use Rattle.paper.specs.Answers.{Makes};
 ghost use Rattle.paper.specs.Build.{within};
-ghost use Rattle.grow.specs.Moves.{front};
-ghost use Rattle.grow.specs.Held.{view, row-held, Laid, table-of, Seeks, Adding, Added, Giving, Given, Coded};
+ghost use Rattle.arrays.specs.Moves.{front};
+ghost use Rattle.arrays.specs.Held.{view, row-held, Laid, table-of, Seeks, Adding, Added, Giving, Given, Coded};
 
 // The row of a state and a terminal among n rows, or where it would go.
 pub fn find(buf: &[i32], lo: usize, n: usize, s: State, t: Terminal) -> Found

@@ -5,7 +5,7 @@ ghost use Prim.Native.Nat.{_<_, _≤_};
 ghost use lib.ListN.{length};
 ghost use Rattle.paper.specs.Answers.{then};
 ghost use Rattle.paper.specs.Build.{sum};
-ghost use Rattle.lists.specs.Call.{lists-in, join-lent, join-all, unite-all};
+ghost use Rattle.lists.specs.Call.{lists-in, join-all, unite-all};
 ghost use Rattle.lists.specs.Held.{held, Holds, Room, Ready, Summed};
 
 // What the lengths of a list sum to, which has that many tokens.
@@ -20,46 +20,6 @@ fn total(lengths: &[usize], tokens: &[u16]) -> usize
         i += 1;
     }
     n
-}
-
-// One more list, built and united to what there is.
-fn join_list(
-    last: Making,
-    production: i32,
-    tokens: &[u16],
-    lengths: &[usize],
-    a: &mut [i32],
-    b: &mut [i32],
-    work: &mut [i32],
-) -> Making
-    requires { ⌜ Ready last (now a) (now b) (now work) ⌝ }
-    ensures { λ r. ⌜ Holds (then (held last (now (a .entry))) (λ m. join-lent m (record {
-      production = production;
-      lengths = now (lengths .entry);
-      tokens = now (tokens .entry);
-    })))
-        r (now (a .exit)) ⌝ }
-{
-    let Making::Made {
-        prod0: p,
-        k,
-        rows: n,
-        states: _,
-    } = last
-    else {
-        return last;
-    };
-    let next = steps::build_list(production, tokens, lengths, b, work);
-    let Making::Made {
-        prod0: q,
-        k: l,
-        rows: m,
-        states: _,
-    } = next
-    else {
-        return next;
-    };
-    steps::unite_two(p, k, n, q, l, m, a, b, work)
 }
 
 // The lists, one after the other: each reads its lengths and tokens from the rest of the slices.
@@ -86,7 +46,7 @@ fn join_all(
     while list < productions.len() {
         let c = counts[list];
         let n = total(&strings[..c], rest);
-        last = join_list(
+        last = join::join_list(
             last,
             productions[list],
             &rest[..n],

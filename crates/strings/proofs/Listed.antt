@@ -18,7 +18,7 @@ use Rattle.rows.specs.Places.{uncoded}
 use Rattle.trees.proofs.Paint.{paint, give-rows, length-give}
 use Rattle.trees.proofs.Tree.{Tree, no-rows}
 use Rattle.trees.proofs.Built.{add-string-good}
-use Rattle.grow.specs.Held.{held, Laid}
+use Rattle.arrays.specs.Held.{held, Laid}
 use Rattle.walk_in.specs.Steps.{standing, Added}
 use Rattle.strings.specs.Listing.{Opens, Recodes, Holds}
 use Rattle.build_checks.proofs.Totals.{sum-next}

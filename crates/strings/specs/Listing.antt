@@ -9,7 +9,7 @@ use lib.ListN.{length}
 use lib.IntN.{ℤ}
 use Rattle.paper.specs.Rows.{Table}
 use Rattle.rows.specs.Places.{uncoded}
-use Rattle.grow.specs.Held.{view, held, Laid}
+use Rattle.arrays.specs.Held.{view, held, Laid}
 use Rattle.strings.specs.declared.Table as declared
 use Rattle.strings.specs.declared.Table.the-variants as table
 

@@ -6,7 +6,7 @@ ghost use mathlib.Core.Path.{_≡_};
 ghost use Prim.Native.Nat.{_≤_};
 ghost use lib.ListN.{length};
 ghost use Rattle.paper.specs.Build.{built, strings, sum};
-ghost use Rattle.grow.specs.Held.{view, Laid};
+ghost use Rattle.arrays.specs.Held.{view, Laid};
 ghost use Rattle.strings.specs.Listing.{Opens, Recodes, Grows};
 
 // A table: where the rows begin and how many they are, the code of its prod0, and k.

@@ -30,7 +30,7 @@ use Rattle.trees.proofs.Matching.{Matching}
 use Rattle.trees.proofs.United.{begun, matching-start}
 use Rattle.ruled.specs.Into.{Holds, Clear}
 use Rattle.ruled.proofs.Arrays.{holds-set, holds-as}
-use Rattle.grow.specs.Held.{held, Laid}
+use Rattle.arrays.specs.Held.{held, Laid}
 use Rattle.taking.specs.Taking.{so-far, all-rows, Stands, Over, Unites, Clashes, Overflows, Treed}
 use Rattle.taking.proofs.Steps.{one-row, after, step-refused, step-taken, match-on, first-row, many-stay}
 

@@ -16,9 +16,9 @@ use Rattle.paper.specs.Unite.{taken}
 use Rattle.rows.specs.Places.{uncoded}
 use Rattle.trees.proofs.Find.{length-insert}
 use Rattle.trees.proofs.Paint.{paint}
-use Rattle.grow.specs.Held.{held, row-held, Missed, next, Adding, Added, Given}
-use Rattle.grow.proofs.Written.{held-length}
-use Rattle.grow.proofs.Placed.{room}
+use Rattle.arrays.specs.Held.{held, row-held, Missed, next, Adding, Added, Given}
+use Rattle.arrays.proofs.Written.{held-length}
+use Rattle.arrays.proofs.Placed.{room}
 use Rattle.taking.specs.Taking.{taking, Stands, Over, Takes}
 use Rattle.taking.specs.declared.Took.{Took}
 

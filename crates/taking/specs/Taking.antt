@@ -12,7 +12,7 @@ use Rattle.paper.specs.Answers.{Ruling, accept, refuse, then, Made, Makes}
 use Rattle.paper.specs.Build.{insert, Standing, within}
 use Rattle.paper.specs.Unite.{taken, United, take-rows}
 use Rattle.rows.specs.Search.{Passed}
-use Rattle.grow.specs.Held.{view, held, Laid}
+use Rattle.arrays.specs.Held.{view, held, Laid}
 use Rattle.trees.proofs.Paint.{paint}
 use Rattle.trees.proofs.Tree.{Tree}
 use Rattle.taking.specs.declared.Took.{Took}

@@ -9,7 +9,7 @@ use rows::search::Found;
 ghost use Prim.Native.Nat.{_≤_};
 ghost use Rattle.paper.specs.Rows.{find, rows-in};
 ghost use Rattle.rows.specs.Places.{uncoded};
-ghost use Rattle.grow.specs.Held.{view, held, row-held, Laid, Missed};
+ghost use Rattle.arrays.specs.Held.{view, held, row-held, Laid, Missed};
 ghost use Rattle.trees.proofs.Tree.{Tree};
 ghost use Rattle.ruled.specs.Into.{Clear};
 ghost use Rattle.taking.specs.Taking.{taking, Takes, Adds, Matches, Hit, United-rows, Treed};

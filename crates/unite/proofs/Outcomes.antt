@@ -25,10 +25,10 @@ use Rattle.rows.specs.Verdicts.{Judges, follow}
 use Rattle.rows.specs.declared.verdict.Verdict.{Verdict}
 use Rattle.rows.specs.declared.verdict.Verdict.the-variants.{Pass, Refused}
 use Rattle.rows.proofs.Judged.{judged}
-use Rattle.grow.specs.Moves.{front}
-use Rattle.grow.specs.Held.{held, Laid, table-of}
-use Rattle.grow.proofs.Fronts.{front-read}
-use Rattle.grow.proofs.Answered.{within-full}
+use Rattle.arrays.specs.Moves.{front}
+use Rattle.arrays.specs.Held.{held, Laid, table-of}
+use Rattle.arrays.proofs.Fronts.{front-read}
+use Rattle.arrays.proofs.Answered.{within-full}
 use Rattle.trees.proofs.Tree.{Tree}
 use Rattle.unite.specs.Whole.{Passes}
 use Rattle.taking.specs.Taking.{

@@ -12,9 +12,9 @@ use Rattle.paper.specs.Rows.{Row, find}
 use Rattle.paper.specs.Build.{Standing, insert, enter}
 use Rattle.rows.proofs.Bracket.{fit-at}
 use Rattle.trees.proofs.Find.{length-insert}
-use Rattle.grow.specs.Held.{held, row-held, Laid, Missed, Adding, next, Added}
-use Rattle.grow.proofs.Written.{held-numbers, held-length}
-use Rattle.grow.proofs.Placed.{room}
+use Rattle.arrays.specs.Held.{held, row-held, Laid, Missed, Adding, next, Added}
+use Rattle.arrays.proofs.Written.{held-numbers, held-length}
+use Rattle.arrays.proofs.Placed.{room}
 use Rattle.walk_in.specs.Steps.{Leads, Stands}
 
 -- a row's to is a state

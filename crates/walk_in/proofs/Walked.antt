@@ -17,8 +17,8 @@ use Rattle.trees.proofs.Paths.{path}
 use Rattle.trees.proofs.Paint.{paint}
 use Rattle.trees.proofs.Tree.{Tree}
 use Rattle.trees.proofs.Built as built
-use Rattle.grow.specs.Held.{held, Laid, next, Giving, Given}
-use Rattle.grow.proofs.Painted.{paint-root}
+use Rattle.arrays.specs.Held.{held, Laid, next, Giving, Given}
+use Rattle.arrays.proofs.Painted.{paint-root}
 use Rattle.walk_in.specs.Steps.{Leads, standing, Stands, Marked, Added}
 
 -- a production's code

@@ -7,7 +7,7 @@ use lib.ListN.{length}
 use lib.IntN.{ℤ}
 use Rattle.paper.specs.Rows.{find}
 use Rattle.paper.specs.Build.{Standing, enter, walk-in}
-use Rattle.grow.specs.Held.{view, held, row-held, Laid}
+use Rattle.arrays.specs.Held.{view, held, row-held, Laid}
 use Rattle.trees.proofs.Paint.{paint}
 use Rattle.walk_in.specs.declared.Step.{Step}
 use Rattle.walk_in.specs.declared.Step.the-variants.{On, Full}

@@ -4,7 +4,7 @@ use paper::State;
 use paper::Terminal;
 use rows::search::Found;
 ghost use Prim.Native.Nat.{_≤_};
-ghost use Rattle.grow.specs.Held.{view, held, Laid, Missed};
+ghost use Rattle.arrays.specs.Held.{view, held, Laid, Missed};
 ghost use Rattle.trees.proofs.Tree.{Tree};
 ghost use Rattle.walk_in.specs.Steps.{Leads, Enters, Walks, Marked, Adds};
 

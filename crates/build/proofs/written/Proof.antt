@@ -1,7 +1,7 @@
 use native.Mathlib.Omega.{arith}
 use Rattle.paper.specs.Build.{built, strings}
-use Rattle.grow.specs.Held.{view}
-use Rattle.grow.proofs.Answered.{laid-none, answers-full}
+use Rattle.arrays.specs.Held.{view}
+use Rattle.arrays.proofs.Answered.{laid-none, answers-full}
 use Rattle.strings.specs.Listing.{Holds}
 use Rattle.build.proofs.Answering.{makes-as}
 use borrow.Author.Needs.{needs}

@@ -2,48 +2,40 @@ use mathlib.Core.Path.{ap, _∙_}
 use native.Mathlib.Omega.{arith}
 use native.Mathlib.Numerals.{add-one}
 use lib.IntN.{pos}
-use Rattle.grow.specs.Held.{view}
-use Rattle.grow.proofs.Shifted.{passed-number, passed-production}
-use Rattle.grow.proofs.PutIn.{inserted-as}
-use Rattle.grow.proofs.Placed.{place-within, added}
+use Rattle.arrays.specs.Held.{view}
+use Rattle.arrays.proofs.Shifted.{passed-number, passed-production}
+use Rattle.arrays.proofs.PutIn.{inserted-as}
+use Rattle.arrays.proofs.Placed.{place-within, added}
 use borrow.Author.Needs.{needs}
 use Rattle.grow.proofs.add.Statement.{statement}
 use Rattle.grow.proofs.add.Tie as tie
 use Rattle.grow.proofs.add.Reads as reads
 use Rattle.grow.proofs.add.Lts as lts
-use Rattle.grow.proofs.ends.insert.Reads as insert-reads
+use Rattle.ends.proofs.insert.Reads as insert-reads
 use Rattle.rows.proofs.numbers.number_of.Reads as number-of-reads
 use Rattle.rows.proofs.numbers.production_of.Reads as production-of-reads
 
--- src/lib.rt:66:35
 cast-number-of : tie.Need-cast-number-of
 cast-number-of c = search needs
 
--- src/lib.rt:66:9
 number-of-requires : tie.Need-number-of-requires
 number-of-requires c κs = search needs
 
--- src/lib.rt:67:39
 cast-number-of-2 : tie.Need-cast-number-of-2
 cast-number-of-2 c = search needs
 
--- src/lib.rt:67:9
 number-of-requires-2 : tie.Need-number-of-requires-2
 number-of-requires-2 c κs = search needs
 
--- src/lib.rt:68:33
 add-number-of : tie.Need-add-number-of
 add-number-of c = search needs
 
--- src/lib.rt:68:9
 number-of-requires-3 : tie.Need-number-of-requires-3
 number-of-requires-3 c κs = search needs
 
--- src/lib.rt:69:9
 production-of-requires : tie.Need-production-of-requires
 production-of-requires c κs = search needs
 
--- src/lib.rt:70:5
 insert-requires : tie.Need-insert-requires
 insert-requires c κs =
     let s = c .before .before .before .before .before .before .before in
@@ -54,11 +46,9 @@ insert-requires c κs =
       p .missed .laid .room,
     )
 
--- src/lib.rt:62:1
 same-length : tie.Need-same-length
 same-length c = search needs
 
--- src/lib.rt:62:1
 returns : tie.Need-returns
 returns c =
     let d = c .before .before .before in

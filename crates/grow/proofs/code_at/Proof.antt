@@ -1,20 +1,17 @@
 use borrow.Author.Needs.{needs}
-use Rattle.grow.proofs.Viewed.{reach, code-read}
+use Rattle.arrays.proofs.Viewed.{reach, code-read}
 use Rattle.grow.proofs.code_at.Statement.{statement}
 use Rattle.grow.proofs.code_at.Tie as tie
 use Rattle.grow.proofs.code_at.Reads as reads
 use Rattle.grow.proofs.code_at.Lts as lts
 use Rattle.rows.proofs.numbers.code_at.Reads as code-at-reads
 
--- src/lib.rt:41:27
 add-code-at : tie.Need-add-code-at
 add-code-at c = let h = reach (c .args .buf .now) (c .args .lo) (c .args .n) (c .pre .0) in search needs
 
--- src/lib.rt:41:5
 code-at-requires : tie.Need-code-at-requires
 code-at-requires c κs = let h = reach (c .args .buf .now) (c .args .lo) (c .args .n) (c .pre .0) in search needs
 
--- src/lib.rt:37:1
 returns : tie.Need-returns
 returns c =
     let s = c .before in

@@ -1,8 +1,8 @@
 use mathlib.Core.Path.{ap, _∙_}
 use Prim.Native.Nat.{_*_}
 use native.Mathlib.Omega.{arith}
-use Rattle.grow.specs.Moves.{front}
-use Rattle.grow.proofs.Viewed.{part-is, back-is}
+use Rattle.arrays.specs.Moves.{front}
+use Rattle.arrays.proofs.Viewed.{part-is, back-is}
 use borrow.Author.Needs.{needs}
 use Rattle.grow.proofs.copy_rows.Statement.{statement}
 use Rattle.grow.proofs.copy_rows.Tie as tie
@@ -10,35 +10,27 @@ use Rattle.grow.proofs.copy_rows.Reads as reads
 use Rattle.grow.proofs.copy_rows.Lts as lts
 use Rattle.grow.proofs.copy_front.Reads as copy-front-reads
 
--- src/lib.rt:106:30
 mul-copy-front : tie.Need-mul-copy-front
 mul-copy-front c = search needs
 
--- src/lib.rt:106:21
 mul-copy-front-2 : tie.Need-mul-copy-front-2
 mul-copy-front-2 c = search needs
 
--- src/lib.rt:106:21
 sub-copy-front : tie.Need-sub-copy-front
 sub-copy-front c = search needs
 
--- src/lib.rt:106:21
 part-copy-front-start : tie.Need-part-copy-front-start
 part-copy-front-start c = search needs
 
--- src/lib.rt:106:21
 part-copy-front-end : tie.Need-part-copy-front-end
 part-copy-front-end c = search needs
 
--- src/lib.rt:106:5
 copy-front-requires : tie.Need-copy-front-requires
 copy-front-requires c κs = search needs
 
--- src/lib.rt:102:1
 same-length : tie.Need-same-length
 same-length c = search needs
 
--- src/lib.rt:102:1
 returns : tie.Need-returns
 returns c =
     let s = c .before .before .before in

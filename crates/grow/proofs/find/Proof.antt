@@ -3,9 +3,9 @@ use mathlib.Core.List.{List}
 use Prim.Native.Nat.{_*_}
 use lib.IntN.{ℤ}
 use Rattle.rows.specs.Search.{Finds}
-use Rattle.grow.specs.Held.{view}
+use Rattle.arrays.specs.Held.{view}
 use native.Mathlib.Omega.{arith}
-use Rattle.grow.proofs.Viewed.{reach, rows-part, seeks}
+use Rattle.arrays.proofs.Viewed.{reach, rows-part, seeks}
 use borrow.Author.Needs.{needs}
 use Rattle.grow.proofs.find.Statement.{statement}
 use Rattle.grow.proofs.find.Tie as tie
@@ -13,43 +13,33 @@ use Rattle.grow.proofs.find.Reads as reads
 use Rattle.grow.proofs.find.Lts as lts
 use Rattle.rows.proofs.search.find.Reads as find-reads
 
--- src/lib.rt:24:17
 mul-first : tie.Need-mul-first
 mul-first c = let h = reach (c .args .buf .now) (c .args .lo) (c .args .n) (c .pre .0) in search needs
 
--- src/lib.rt:25:38
 mul-find : tie.Need-mul-find
 mul-find c = search needs
 
--- src/lib.rt:25:30
 add-find : tie.Need-add-find
 add-find c = let h = reach (c .args .buf .now) (c .args .lo) (c .args .n) (c .pre .0) in search needs
 
--- src/lib.rt:25:18
 mul-find-2 : tie.Need-mul-find-2
 mul-find-2 c = let h = reach (c .args .buf .now) (c .args .lo) (c .args .n) (c .pre .0) in search needs
 
--- src/lib.rt:25:18
 sub-find : tie.Need-sub-find
 sub-find c = search needs
 
--- src/lib.rt:25:18
 part-find-start : tie.Need-part-find-start
 part-find-start c = search needs
 
--- src/lib.rt:25:18
 part-find-end : tie.Need-part-find-end
 part-find-end c = reach (c .args .buf .now) (c .args .lo) (c .args .n) (c .pre .0)
 
--- src/lib.rt:25:46
 cast-find : tie.Need-cast-find
 cast-find c = search needs
 
--- src/lib.rt:25:60
 cast-find-2 : tie.Need-cast-find-2
 cast-find-2 c = search needs
 
--- src/lib.rt:25:5
 find-requires : tie.Need-find-requires
 find-requires c κs =
     let s = c .before .before .before in
@@ -59,7 +49,6 @@ find-requires c κs =
       omega arith,
     )
 
--- src/lib.rt:20:1
 returns : tie.Need-returns
 returns c =
     let s = c .before .before .before .before in

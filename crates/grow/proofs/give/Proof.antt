@@ -1,10 +1,10 @@
 use Prim.Native.Nat.{_+_, _*_}
 use mathlib.Core.Path.{ap, _∙_}
 use lib.ListN.{length, set, length-set}
-use Rattle.grow.specs.Held.{view}
-use Rattle.grow.proofs.Shifted.{passed-production}
-use Rattle.grow.proofs.Painted.{given}
-use Rattle.grow.proofs.Viewed.{reach, view-set}
+use Rattle.arrays.specs.Held.{view}
+use Rattle.arrays.proofs.Shifted.{passed-production}
+use Rattle.arrays.proofs.Painted.{given}
+use Rattle.arrays.proofs.Viewed.{reach, view-set}
 use borrow.Author.Needs.{needs}
 use Rattle.grow.proofs.give.Statement.{statement}
 use Rattle.grow.proofs.give.Tie as tie
@@ -12,35 +12,27 @@ use Rattle.grow.proofs.give.Reads as reads
 use Rattle.grow.proofs.give.Lts as lts
 use Rattle.rows.proofs.numbers.production_of.Reads as production-of-reads
 
--- src/lib.rt:78:29
 production-of-requires : tie.Need-production-of-requires
 production-of-requires c κs = search needs
 
--- src/lib.rt:78:10
 add-t7 : tie.Need-add-t7
 add-t7 c = let h = reach (c .before .args .buf .now) (c .before .args .lo) (c .before .args .n) (c .before .pre .laid) in search needs
 
--- src/lib.rt:78:9
 mul-t8 : tie.Need-mul-t8
 mul-t8 c = let h = reach (c .before .args .buf .now) (c .before .args .lo) (c .before .args .n) (c .before .pre .laid) in search needs
 
--- src/lib.rt:78:9
 add-t9 : tie.Need-add-t9
 add-t9 c = let h = reach (c .before .args .buf .now) (c .before .args .lo) (c .before .args .n) (c .before .pre .laid) in search needs
 
--- src/lib.rt:78:5
 mul-t10 : tie.Need-mul-t10
 mul-t10 c = let h = reach (c .before .args .buf .now) (c .before .args .lo) (c .before .args .n) (c .before .pre .laid) in search needs
 
--- src/lib.rt:78:5
 slice-set-from-buf : tie.Need-slice-set-from-buf
 slice-set-from-buf c = let h = reach (c .before .args .buf .now) (c .before .args .lo) (c .before .args .n) (c .before .pre .laid) in search needs
 
--- src/lib.rt:74:1
 same-length : tie.Need-same-length
 same-length c = search needs
 
--- src/lib.rt:74:1
 returns : tie.Need-returns
 returns c =
     let s = c .before in

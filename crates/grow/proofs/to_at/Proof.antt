@@ -1,21 +1,18 @@
 use native.Mathlib.Omega.{arith}
 use borrow.Author.Needs.{needs}
-use Rattle.grow.proofs.Viewed.{reach, to-read}
+use Rattle.arrays.proofs.Viewed.{reach, to-read}
 use Rattle.grow.proofs.to_at.Statement.{statement}
 use Rattle.grow.proofs.to_at.Tie as tie
 use Rattle.grow.proofs.to_at.Reads as reads
 use Rattle.grow.proofs.to_at.Lts as lts
 use Rattle.rows.proofs.numbers.to_at.Reads as to-at-reads
 
--- src/lib.rt:33:31
 add-to-at : tie.Need-add-to-at
 add-to-at c = let h = reach (c .args .buf .now) (c .args .lo) (c .args .n) (c .pre .0) in search needs
 
--- src/lib.rt:33:11
 to-at-requires : tie.Need-to-at-requires
 to-at-requires c κs = let h = reach (c .args .buf .now) (c .args .lo) (c .args .n) (c .pre .0) in search needs
 
--- src/lib.rt:33:11
 cast-t7 : tie.Need-cast-t7
 cast-t7 c =
     let s = c .before in
@@ -23,7 +20,6 @@ cast-t7 c =
     let h = to-read (a .buf .now) (a .lo) (a .n) (a .i) (s .pre .0) (s .pre .1) _ (c .to-at .ensures .is) in
     omega (arith, h .1)
 
--- src/lib.rt:29:1
 returns : tie.Need-returns
 returns c =
     let s = c .before in

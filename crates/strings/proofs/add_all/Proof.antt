@@ -4,7 +4,7 @@ use native.Mathlib.Omega.{arith}
 use lib.ListN.{length, getD, drop}
 use lib.Seq.{length-take-le}
 use borrow.Author.Needs.{needs}
-use Rattle.grow.specs.Held.{view}
+use Rattle.arrays.specs.Held.{view}
 use Rattle.strings.proofs.Listed.{Listing, lists-all, listed, len-fits, lists-full, lists-next}
 use Rattle.strings.proofs.add_all.Statement.{statement}
 use Rattle.strings.proofs.add_all.Tie as tie

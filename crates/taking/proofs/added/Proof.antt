@@ -1,5 +1,5 @@
 use native.Mathlib.Omega.{arith}
-use Rattle.grow.specs.Held.{view}
+use Rattle.arrays.specs.Held.{view}
 use Rattle.taking.proofs.Rowed.{adds-over, adds-row}
 use borrow.Author.Needs.{needs}
 use Rattle.taking.proofs.added.Statement.{statement}

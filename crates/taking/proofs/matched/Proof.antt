@@ -1,5 +1,5 @@
 use Rattle.rows.specs.Places.{uncoded}
-use Rattle.grow.specs.Held.{view, held, row-held}
+use Rattle.arrays.specs.Held.{view, held, row-held}
 use Rattle.taking.proofs.Rowed.{matches-clash, gives}
 use borrow.Author.Needs.{needs}
 use Rattle.taking.proofs.matched.Statement.{statement}

@@ -3,7 +3,7 @@ use mathlib.Core.Option.{Option}
 use Rattle.paper.specs.Rows.{Row}
 use Rattle.rows.specs.Places.{uncoded}
 use Rattle.rows.specs.declared.search.Found.the-variants.{At}
-use Rattle.grow.specs.Held.{view, held, Missed, Seeks}
+use Rattle.arrays.specs.Held.{view, held, Missed, Seeks}
 use Rattle.taking.specs.Taking.{taking, Takes}
 use borrow.Author.Needs.{needs}
 use Rattle.taking.proofs.take_row.Statement.{statement}

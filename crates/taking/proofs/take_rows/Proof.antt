@@ -9,7 +9,7 @@ use Rattle.paper.specs.Build.{Standing}
 use Rattle.paper.specs.Unite.{matched}
 use Rattle.rows.specs.Places.{row-at, uncoded}
 use Rattle.rows.proofs.Fits.{Fit}
-use Rattle.grow.specs.Held.{view, held}
+use Rattle.arrays.specs.Held.{view, held}
 use Rattle.rows.proofs.Codes.{uncoded-code}
 use Rattle.taking.specs.Taking.{Takes}
 use Rattle.taking.specs.declared.Took.{Took}

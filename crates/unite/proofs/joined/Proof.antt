@@ -4,7 +4,7 @@ use native.Mathlib.Omega.{arith}
 use lib.ListN.{length, length-drop}
 use Rattle.paper.specs.Rows.{rows-in}
 use Rattle.rows.specs.Places.{uncoded}
-use Rattle.grow.specs.Held.{view}
+use Rattle.arrays.specs.Held.{view}
 use Rattle.ruled.proofs.Arrays.{clear}
 use Rattle.trees.proofs.Tree.{Tree}
 use Rattle.taking.specs.Taking.{United-rows}

@@ -3,7 +3,7 @@ use mathlib.Core.List.{List}
 use Rattle.paper.specs.Rows.{Row}
 use Rattle.paper.specs.Build.{Standing, walk-in}
 use Rattle.trees.proofs.Tree.{Tree}
-use Rattle.grow.specs.Held.{view}
+use Rattle.arrays.specs.Held.{view}
 use Rattle.walk_in.specs.Steps.{standing, Stands}
 use Rattle.walk_in.proofs.Walked.{walk-tree, marked}
 use borrow.Author.Needs.{needs}

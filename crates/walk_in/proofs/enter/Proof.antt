@@ -1,6 +1,6 @@
 use native.Mathlib.Omega.{arith}
 use Rattle.rows.specs.declared.search.Found.the-variants.{At}
-use Rattle.grow.specs.Held.{view, Missed, Seeks}
+use Rattle.arrays.specs.Held.{view, Missed, Seeks}
 use Rattle.walk_in.proofs.Entered.{goes}
 use borrow.Author.Needs.{needs}
 use Rattle.walk_in.proofs.enter.Statement.{statement}

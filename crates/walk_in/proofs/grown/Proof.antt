@@ -1,4 +1,4 @@
-use Rattle.grow.specs.Held.{view}
+use Rattle.arrays.specs.Held.{view}
 use Rattle.walk_in.proofs.Entered.{overflows, grows}
 use borrow.Author.Needs.{needs}
 use Rattle.walk_in.proofs.grown.Statement.{statement}

@@ -1,5 +1,5 @@
 use native.Mathlib.Omega.{arith}
-use Rattle.grow.specs.Held.{view}
+use Rattle.arrays.specs.Held.{view}
 use Rattle.walk_in.proofs.Walked.{mark-root, giving, mark-row}
 use borrow.Author.Needs.{needs}
 use Rattle.walk_in.proofs.mark.Statement.{statement}

@@ -3,7 +3,7 @@ use Prim.Native.Nat.{ℕ, _+_, _-_, _≤_}
 use native.Mathlib.Omega.{arith}
 use lib.ListN.{length, getD, drop}
 use borrow.Author.Needs.{needs}
-use Rattle.grow.specs.Held.{view}
+use Rattle.arrays.specs.Held.{view}
 use Rattle.walk_in.specs.Steps.{standing}
 use Rattle.walk_in.proofs.Entered.{state-small}
 use Rattle.walk_in.proofs.Walked.{Walking, walk-starts, walk-on, walk-full, walk-ends}
