@@ -182,7 +182,7 @@ pub extern "C" fn lookahead_text_in(text: &[u8], out: &mut [i32], answer: &mut [
     ensures { λ r. ⌜ Handed-read (text-in (now (text .entry)) (length (now (out .entry))))
         (now (out .entry)) (now (out .exit)) r (now (answer .exit)) ⌝ }
 {
-    handed::heard(text::text_in(text, out), answer)
+    handed::heard(text_in::text_in(text, out), answer)
 }
 
 // Text out: the text at the front of `out`; its length.
@@ -197,5 +197,5 @@ pub extern "C" fn lookahead_text_out(
     ensures { λ r. ⌜ Handed-written (text-out prod0 k (now (rows .entry)) (length (now (out .entry))))
         (now (out .entry)) (now (out .exit)) r (now (answer .exit)) ⌝ }
 {
-    handed::wrote(text::text_out(prod0, k, rows, out), answer)
+    handed::wrote(text_out::text_out(prod0, k, rows, out), answer)
 }

@@ -9,7 +9,7 @@ use Rattle.paper.specs.Words.{bytes}
 use Rattle.paper.specs.Answers.{number, detail, refuse}
 use Rattle.paper.specs.Text.{digits, decimal}
 use Rattle.paper.specs.Tabrep.{line, printed}
-use Rattle.text.specs.Put.{Puts}
+use Rattle.text_laws.specs.Put.{Puts}
 use Rattle.report.specs.declared.lines.Sizes.{Sizes}
 use Rattle.report.specs.Printed.{labelled, three}
 

@@ -16,9 +16,9 @@ use Rattle.paper.specs.Text.{text-in}
 use Rattle.laws.proofs.RowNumbers.{table-numbers, slice-numbers}
 use Rattle.rows.specs.Places.{code}
 use Rattle.rows.proofs.Judged.{bounded}
-use Rattle.text.proofs.Filled.{stored}
-use Rattle.text.proofs.Back.{passed}
-use Rattle.text.proofs.Trips.{of-rows}
+use Rattle.text_in.proofs.Filled.{stored}
+use Rattle.text_trips.proofs.Back.{passed}
+use Rattle.text_trips.proofs.Trips.{of-rows}
 use Rattle.report.specs.Rulings.{Taken, of-table, of-text}
 use Rattle.report.proofs.Refused.{refused-is}
 

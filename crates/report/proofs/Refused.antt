@@ -3,7 +3,7 @@ use Prim.Native.Nat.{ℕ}
 use mathlib.Core.Path.{_≡_}
 use mathlib.Core.List.{List}
 use Rattle.paper.specs.Answers.{Ruling, accept, refuse, then}
-use Rattle.text.proofs.Never.{refuse-accept}
+use Rattle.text_laws.proofs.Never.{refuse-accept}
 
 pub refused-is : {A B : Type 0} (told : A → B) (r : Ruling A) (n : ℕ) (d : List ℕ) →
     refuse n d ≡ then r (λ a. accept (told a)) → r ≡ refuse n d

@@ -8,8 +8,8 @@ use lib.ListN.{length, drop, length-append}
 use lib.Seq.{length-take-le}
 use Rattle.paper.specs.Answers.{Ruling, accept, refuse}
 use Rattle.paper.specs.Tabrep.{tabrep, report, printed}
-use Rattle.text.specs.Put.{Puts}
-use Rattle.text.proofs.Put.{put-front}
+use Rattle.text_laws.specs.Put.{Puts}
+use Rattle.text_laws.proofs.Put.{put-front}
 use Rattle.report.specs.Rulings.{Prints, of-table, of-text}
 
 module _ {old new a b : List ℕ} {room n : ℕ} where

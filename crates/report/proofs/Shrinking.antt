@@ -22,8 +22,8 @@ use Rattle.ruled.specs.Into.{Fitting}
 use Rattle.merging.proofs.States.{states-length}
 use Rattle.merging.proofs.Promises.{shrunk-rows-le, shrunk-states-le}
 use Rattle.shrink.proofs.Parts.{slice-few}
-use Rattle.text.proofs.Never.{refuse-accept}
-use Rattle.text.proofs.Back.{passes}
+use Rattle.text_laws.proofs.Never.{refuse-accept}
+use Rattle.text_trips.proofs.Back.{passes}
 use Rattle.report.specs.declared.lines.Sizes.{Sizes}
 use Rattle.report.specs.Printed.{Small, three}
 use Rattle.report.specs.Rulings.{Taken, Sized, of-table}

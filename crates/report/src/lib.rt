@@ -81,7 +81,7 @@ fn with_table(input: &[u8], buf: &mut [i32], spare: &mut [i32], out: &mut [u8]) 
     requires { ⌜ (length (now buf) ≡ 16384) × (16384 ≤ length (now spare)) × (64 ≤ length (now out)) ⌝ }
     ensures { λ r. ⌜ Prints (printed (of-text (now (input .entry)))) (now (out .entry)) (now (out .exit)) r ⌝ }
 {
-    let reading = text::text_in(input, buf);
+    let reading = text_in::text_in(input, buf);
     match reading {
         Reading::Read { prod0, k, rows } => with_archive(prod0, k, &buf[..rows * 4], spare, out),
         Reading::Refused(f) => lines::put_refused(out, f),

@@ -1,11 +1,11 @@
 // The lines that are printed.
 use paper::Refusal;
-use text::writing;
+use text_out::writing;
 ghost use Prim.Native.Nat.{_+_, _≤_};
 ghost use lib.ListN.{length};
 ghost use Rattle.paper.specs.Answers.{number, detail, refuse};
 ghost use Rattle.paper.specs.Tabrep.{printed};
-ghost use Rattle.text.specs.Put.{Puts};
+ghost use Rattle.text_laws.specs.Put.{Puts};
 ghost use Rattle.report.specs.Printed.{labelled, three, Small};
 
 // How many states and rows a table has.

@@ -7,7 +7,7 @@ use paper::Refusal;
 pub fn answer(name: &[u8], text: &[u8]) {
     report(name, text);
     let mut rows = [0i32; 16384];
-    bad(name, text::text_in(text, &mut rows));
+    bad(name, text_in::text_in(text, &mut rows));
 }
 
 pub fn report(name: &[u8], text: &[u8]) {

@@ -33,7 +33,7 @@ fn number(plain: Plain, numbers: &[i32]) -> usize {
 pub fn tried(text: &[u8], numbers: &mut [i32], out: &mut [i32]) -> Outcome {
     let plain = plain::read(text, numbers);
     slice::fill(out);
-    let reading = text::text_in(text, out);
+    let reading = text_in::text_in(text, out);
     judged(reading, plain, text, numbers, out)
 }
 
@@ -100,7 +100,7 @@ pub fn written(writing: Writing) -> usize {
 // Whether text out writes a table as this text, and nothing behind it.
 fn is_written(prod0: i32, k: usize, rows: &[i32], text: &[u8]) -> bool {
     let mut bytes = room();
-    let n = written(text::text_out(prod0, k, rows, &mut bytes));
+    let n = written(text_out::text_out(prod0, k, rows, &mut bytes));
     check::same(text, slice::front_bytes(&bytes, n)) && is_blank(&bytes, n)
 }
 

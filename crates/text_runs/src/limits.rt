@@ -36,7 +36,7 @@ fn after(rows: &[i32]) {
 // The text of a table with more behind it.
 fn longer(name: &[u8], rows: &[i32], more: &[u8]) {
     let mut bytes = compare::room();
-    let n = compare::written(text::text_out(-1, 2, rows, &mut bytes));
+    let n = compare::written(text_out::text_out(-1, 2, rows, &mut bytes));
     let end = lay(&mut bytes, n, more);
     let mut numbers = [0i32; 16390];
     let mut out = [0i32; 16384];
@@ -61,7 +61,7 @@ fn lay(bytes: &mut [u8], n: usize, more: &[u8]) -> usize {
 // An output of 16,383 numbers is refused before a bad text.
 fn little_room() {
     let mut out = [0i32; 16383];
-    let number = number_of(text::text_in(b"x", &mut out));
+    let number = number_of(text_in::text_in(b"x", &mut out));
     say(
         b"1 for the output before 13",
         Outcome {

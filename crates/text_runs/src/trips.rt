@@ -16,7 +16,7 @@ fn is_same(prod0: i32, k: usize, rows: &[i32], numbers: &[i32]) -> bool {
 }
 
 fn trip(prod0: i32, k: usize, rows: &[i32], bytes: &mut [u8], out: &mut [i32]) -> Outcome {
-    let n = compare::written(text::text_out(prod0, k, rows, bytes));
+    let n = compare::written(text_out::text_out(prod0, k, rows, bytes));
     let mut numbers = [0i32; 16386];
     let outcome = compare::tried(slice::front_bytes(bytes, n), &mut numbers, out);
     Outcome {

@@ -3,7 +3,7 @@ use Prim.Native.Nat.{_+_}
 use mathlib.Core.Path.{_≡_}
 use native.Mathlib.Omega.{arith}
 use lib.ListN.{length}
-use Rattle.text.proofs.Written.{puts-on, puts-as}
+use Rattle.text_out.proofs.Written.{puts-on, puts-as}
 use Rattle.report.proofs.Parts.{line-parts, puts-room}
 use borrow.Author.Needs.{needs}
 use Rattle.report.proofs.lines.put_line.Statement.{statement}

@@ -1,6 +1,6 @@
 -- `report::lines::put_lines` meets its contract. Three lines, each from where the one before it ends. Assumes nothing.
 use native.Mathlib.Omega.{arith}
-use Rattle.text.proofs.Written.{puts-on, puts-as}
+use Rattle.text_out.proofs.Written.{puts-on, puts-as}
 use Rattle.report.proofs.Parts.{three-parts}
 use borrow.Author.Needs.{needs}
 use Rattle.report.proofs.lines.put_lines.Statement.{statement}

@@ -1,6 +1,6 @@
 -- `report::lines::put_refused` meets its contract. Two writings, one after the other. Assumes nothing.
 use native.Mathlib.Omega.{arith}
-use Rattle.text.proofs.Written.{puts-on, puts-as}
+use Rattle.text_out.proofs.Written.{puts-on, puts-as}
 use Rattle.report.proofs.Parts.{refused-parts, number-small}
 use borrow.Author.Needs.{needs}
 use Rattle.report.proofs.lines.put_refused.Statement.{statement}

@@ -1,5 +1,0 @@
-pub mod Put
-pub mod Written
-pub mod Pieces
-pub mod Reading
-pub mod Tally

@@ -1,0 +1,1 @@
+// Theorems only: what text in and text out share.

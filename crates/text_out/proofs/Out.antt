@@ -1,0 +1,105 @@
+-- What text out answers, check by check. Assumes nothing.
+use Prim.Native.Nat.{ℕ, _+_, _%_, _<_, _≤_}
+use mathlib.Core.Path.{_≡_, ap, sym, subst, _∙_}
+use mathlib.Core.Bool.{Bool, true, false, not, _&&_}
+use mathlib.Core.List.{List, [], _∷_, _++_, append-assoc}
+use native.Mathlib.Omega.{arith}
+use borrow.Author.Tests.{lt-ltb, le-ltb, ltb-false, leb-true, not-false}
+use lib.Dec.{eqb, ltb, leb}
+use lib.ListN.{length}
+use lib.IntN.{ℤ, pos}
+use mir.Syntax.{w32}
+use mir.Val.{SFits, toZ, ofZ}
+use mir.Facts.{toZ-ofZ}
+use Rattle.paper.specs.Rows.{table, rows-in, accepting, signed}
+use Rattle.paper.specs.Answers.{Ruling, accept, refuse, Writes, number, detail}
+use Rattle.paper.specs.Checks.{every, row-fits, row-slice, production-fits, range, order}
+use Rattle.paper.specs.Text.{text, text-out, write, head-form}
+use Rattle.paper.specs.declared.Refusal.{Refusal}
+use Rattle.paper.specs.declared.Writing.the-variants.{Wrote, Refused}
+use Rattle.laws.proofs.Every.{neither}
+use Rattle.rows.specs.Places.{Reads, code, uncoded, bare}
+use Rattle.rows.proofs.Rest.{both}
+use Rattle.rows.proofs.Fits.{code-fits}
+use Rattle.text_laws.specs.Put.{Puts}
+use Rattle.text_laws.specs.Written.{head-text, rows-text}
+use Rattle.text_laws.proofs.Put.{put-front}
+use Rattle.rows.proofs.Codes.{uncoded-code}
+use Rattle.text_laws.proofs.Kept.{production-kept, lines-kept}
+
+-- a refusal, and what was written
+module _ {ruling : Ruling (List ℕ)} {old : List ℕ} where
+  pub refused : (r : Refusal) → ruling ≡ refuse (number r) (detail r) → Writes ruling (Refused r) old old
+  refused r e = record { says = rw e; holds = rw e }
+
+  pub written : {t new : List ℕ} {n room : ℕ} → ruling ≡ accept t → Puts old 0 room t new n →
+      Writes ruling (Wrote n) old new
+  written {t} {new} {n} e p = record {
+    says = let m : n ≡ length t = omega (arith, p .place) in rw (e, m);
+    holds = rw e (p .holds ∙ put-front old t);
+  }
+
+module _ (p : ℤ) (k : ℕ) (ns : List ℤ) (room : ℕ) where
+  pub out-slice : row-slice ns ≡ true → text-out p k ns room ≡ refuse 1 []
+  unfolding text-out
+  out-slice e = rw e
+
+  module _ (whole : row-slice ns ≡ false) where
+    pub out-room : room < 262144 → text-out p k ns room ≡ refuse 1 []
+    unfolding text-out
+    out-room h = rw (whole, lt-ltb room 262144 h)
+
+    module _ (wide : 262144 ≤ room) where
+      pub out-range : range (table p k ns) ≡ true → text-out p k ns room ≡ refuse 2 []
+      unfolding text-out
+      out-range e = rw (whole, le-ltb room 262144 wide, e)
+
+      module _ (ranged : range (table p k ns) ≡ false) where
+        pub out-order : order (bare ns) ≡ true → text-out p k ns room ≡ refuse 3 []
+        unfolding text-out order
+        out-order e = rw (whole, le-ltb room 262144 wide, ranged, e)
+
+        pub out-text : order (bare ns) ≡ false → text-out p k ns room ≡ accept (text p k ns)
+        unfolding text-out order
+        out-text e = rw (whole, le-ltb room 262144 wide, ranged, e)
+
+-- what a table within its bounds is
+pub record Ranged (p : ℤ) (k : ℕ) (ns : List ℤ) : Type 0 where
+  pub prod0 : code (accepting p) ≤ 65536
+  pub few : k ≤ 16
+  pub rows : every row-fits (rows-in ns) ≡ true
+
+pub in-range : (p : ℤ) (k : ℕ) (ns : List ℤ) → range (table p k ns) ≡ false → Ranged p k ns
+unfolding range
+in-range p k ns e =
+    let h = both (production-fits (accepting p) && leb k 16) (every row-fits (rows-in ns)) (not-false _ e) in
+    let g = both (production-fits (accepting p)) (leb k 16) (h .0) in
+    record {
+      prod0 = leb-true _ _ (code-fits (accepting p) ∙ g .0);
+      few = leb-true _ _ (g .1);
+      rows = h .1;
+    }
+
+-- prod0 as a callee is passed it
+pub range-by : (p : ℤ) (k : ℕ) (ns : List ℤ) {r b : Bool} → SFits w32 p →
+    r ≡ range (table (toZ w32 (ofZ w32 p)) k ns) → r ≡ b → range (table p k ns) ≡ b
+range-by p k ns {r} {b} f e t = subst (λ (z : ℤ). range (table z k ns) ≡ b) (toZ-ofZ f) (sym e ∙ t)
+
+pub code-by : (p : ℤ) {r : ℕ} → SFits w32 p → Reads (code (accepting (toZ w32 (ofZ w32 p)))) r → r ≡ code (accepting p)
+code-by p {r} f e = subst (λ (z : ℤ). r ≡ code (accepting z)) (toZ-ofZ f) (e .is)
+
+-- a row slice that is taken has at most 16,384 numbers
+pub in-slice : (ns : List ℤ) → row-slice ns ≡ false → length ns ≤ 16384
+unfolding row-slice
+in-slice ns e = ltb-false 16384 (length ns) (neither (not (eqb (length ns % 4) 0)) (ltb 16384 (length ns)) e .1)
+
+-- the head, with prod0 by its code, and the lines are the text
+pub text-parts : (p : ℤ) (k : ℕ) (ns : List ℤ) (c : ℕ) → Ranged p k ns → c ≡ code (accepting p) →
+    head-text (signed (uncoded c)) k ++ rows-text (rows-in ns) ≡ text p k ns
+unfolding head-text text
+text-parts p k ns c h e =
+    let w = write head-form (p ∷ pos k ∷ []) in
+    let q : signed (uncoded c) ≡ p = rw (e, uncoded-code (accepting p)) (production-kept p (h .prod0)) in
+    ap (λ (z : ℤ). (write head-form (z ∷ pos k ∷ []) ++ (10 ∷ [])) ++ rows-text (rows-in ns)) q
+    ∙ append-assoc w (10 ∷ []) (rows-text (rows-in ns))
+    ∙ ap (λ (x : List ℕ). w ++ (10 ∷ x)) (lines-kept ns (h .rows))
