@@ -32,13 +32,13 @@ use Rattle.merging.specs.Marks.{source-of, heads-of, marked-row, marked-rows, m
 use Rattle.merging.proofs.States.{rows-of-in}
 use Rattle.merging.proofs.Ruled.{row-production}
 use Rattle.merging.proofs.Shrunk.{shrunk-by-marks}
-use Rattle.shrink.specs.Faces.{coded, mark-in}
-use Rattle.shrink.specs.Classes.{Classes}
-use Rattle.shrink.specs.Output.{Named, Written, all-rows, Shrunk, Sound}
+use Rattle.shrink_alike.specs.Faces.{coded, mark-in}
+use Rattle.shrink_classes.specs.Classes.{Classes}
+use Rattle.shrink_rows.specs.Output.{Named, Written, all-rows, Shrunk, Sound}
 use Rattle.rows.proofs.Codes.{uncoded-code}
-use Rattle.shrink.proofs.Entered.{state-small}
-use Rattle.shrink.proofs.Marking.{class-marks, class-state, class-source}
-use Rattle.shrink.proofs.Writing.{written-front}
+use Rattle.shrink_classes.proofs.Entered.{state-small}
+use Rattle.shrink_classes.proofs.Marking.{class-marks, class-state, class-source}
+use Rattle.shrink_rows.proofs.Writing.{written-front}
 
 -- ---- the checks look at rows alone
 

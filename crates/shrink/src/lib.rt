@@ -4,14 +4,10 @@ use paper::Mode;
 use paper::Refusal;
 use rows::numbers;
 use rows::verdict::Verdict;
-
-mod classes;
-mod emit;
-mod index;
-mod places;
-mod same;
-mod slots;
-
+use shrink_alike::index;
+use shrink_classes::classes;
+use shrink_rows::emit;
+use shrink_rows::places;
 ghost use mathlib.Core.Path.{_≡_};
 ghost use mathlib.Core.Bool.{false};
 ghost use Prim.Native.Nat.{_≤_};
@@ -20,10 +16,10 @@ ghost use Rattle.paper.specs.Rows.{rows-in, table};
 ghost use Rattle.paper.specs.Answers.{accept, Makes};
 ghost use Rattle.paper.specs.Checks.{shape, split};
 ghost use Rattle.paper.specs.Shrink.{shrink, shrunk};
-ghost use Rattle.shrink.specs.Index.{Indexed};
-ghost use Rattle.shrink.specs.Faces.{coded};
-ghost use Rattle.shrink.specs.Classes.{Topped};
-ghost use Rattle.shrink.specs.Output.{Named, Wrote, Shrunk, Sound};
+ghost use Rattle.shrink_alike.specs.Index.{Indexed};
+ghost use Rattle.shrink_alike.specs.Faces.{coded};
+ghost use Rattle.shrink_classes.specs.Classes.{Topped};
+ghost use Rattle.shrink_rows.specs.Output.{Named, Wrote, Shrunk, Sound};
 
 // How many rows and states a shrunk table has.
 struct Sizes {

@@ -9,8 +9,8 @@ use Rattle.shrink.proofs.shrink_indexed.Statement.{statement}
 use Rattle.shrink.proofs.shrink_indexed.Tie as tie
 use Rattle.shrink.proofs.shrink_indexed.Reads as reads
 use Rattle.shrink.proofs.shrink_indexed.Lts as lts
-use Rattle.shrink.proofs.classes.classes.Reads as classes-reads
-use Rattle.shrink.proofs.classes.top.Reads as top-reads
+use Rattle.shrink_classes.proofs.classes.classes.Reads as classes-reads
+use Rattle.shrink_classes.proofs.classes.top.Reads as top-reads
 use Rattle.shrink.proofs.write.Reads as write-reads
 
 -- src/lib.rt:68:9

@@ -6,7 +6,7 @@ use lib.IntN.{ℤ}
 use Rattle.paper.specs.Rows.{accepting}
 use Rattle.rows.specs.Places.{code}
 use Rattle.rows.proofs.Signed.{same}
-use Rattle.shrink.proofs.Begins.{filled}
+use Rattle.shrink_alike.proofs.Begins.{filled}
 use Rattle.shrink.proofs.Parts.{sound-passed, sound-fitting, sound-shape, sound-split, shrunk-answer}
 use borrow.Author.Needs.{needs}
 use Rattle.shrink.proofs.shrink_ruled.Statement.{statement}
@@ -15,7 +15,7 @@ use Rattle.shrink.proofs.shrink_ruled.Reads as reads
 use Rattle.shrink.proofs.shrink_ruled.Lts as lts
 use Rattle.rows.proofs.numbers.coded.Reads as coded-reads
 use Rattle.ruled.proofs.into.mark.Reads as mark-reads
-use Rattle.shrink.proofs.index.firsts.Reads as firsts-reads
+use Rattle.shrink_alike.proofs.index.firsts.Reads as firsts-reads
 use Rattle.shrink.proofs.shrink_indexed.Reads as shrink-indexed-reads
 
 -- src/lib.rt:79:9

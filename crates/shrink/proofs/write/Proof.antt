@@ -1,11 +1,11 @@
-use Rattle.shrink.proofs.Begins.{filled}
+use Rattle.shrink_alike.proofs.Begins.{filled}
 use borrow.Author.Needs.{needs}
 use Rattle.shrink.proofs.write.Statement.{statement}
 use Rattle.shrink.proofs.write.Tie as tie
 use Rattle.shrink.proofs.write.Reads as reads
 use Rattle.shrink.proofs.write.Lts as lts
-use Rattle.shrink.proofs.emit.emit.Reads as emit-reads
-use Rattle.shrink.proofs.places.places.Reads as places-reads
+use Rattle.shrink_rows.proofs.emit.emit.Reads as emit-reads
+use Rattle.shrink_rows.proofs.places.places.Reads as places-reads
 
 -- src/lib.rt:46:9
 places-requires : tie.Need-places-requires

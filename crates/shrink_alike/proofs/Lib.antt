@@ -1,0 +1,3 @@
+pub mod Begins
+pub mod Productions
+pub mod Alike

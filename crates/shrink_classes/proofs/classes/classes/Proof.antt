@@ -1,0 +1,20 @@
+use Rattle.shrink_alike.proofs.Begins.{filled}
+use borrow.Author.Needs.{needs}
+use Rattle.shrink_classes.proofs.classes.classes.Statement.{statement}
+use Rattle.shrink_classes.proofs.classes.classes.Tie as tie
+use Rattle.shrink_classes.proofs.classes.classes.Reads as reads
+use Rattle.shrink_classes.proofs.classes.classes.Lts as lts
+use Rattle.shrink_classes.proofs.classes.classify.Reads as classify-reads
+
+-- src/classes.rt:109:5
+classify-requires : tie.Need-classify-requires
+classify-requires c κs =
+    let s = c .before .before in
+    (s .pre .0, s .pre .1, s .pre .2, filled 65535, s .pre .3)
+
+-- src/classes.rt:95:1
+returns : tie.Need-returns
+returns c = search needs
+
+pub classes-spec : {M : Type 1} → statement M
+classes-spec = tie.close (tie.spec classify-requires returns)

@@ -1,0 +1,26 @@
+use Rattle.shrink_classes.proofs.Entered.{tells-zero, tells-entered}
+use borrow.Author.Needs.{needs}
+use Rattle.shrink_classes.proofs.classes.is_state.Statement.{statement}
+use Rattle.shrink_classes.proofs.classes.is_state.Tie as tie
+use Rattle.shrink_classes.proofs.classes.is_state.Reads as reads
+use Rattle.shrink_classes.proofs.classes.is_state.Lts as lts
+use Rattle.shrink_alike.proofs.index.at.Reads as at-reads
+
+-- src/classes.rt:24:9
+returns : tie.Need-returns
+returns c = tells-zero (c .before .args .rows .now) (c .before .args .s) (c .if1 .taken)
+
+-- src/classes.rt:26:5
+at-requires : tie.Need-at-requires
+at-requires c κs = search needs
+
+-- src/classes.rt:19:1
+returns-2 : tie.Need-returns-2
+returns-2 c =
+    let i = c .before in
+    let s = i .before in
+    tells-entered (s .args .rows .now) (s .args .into .now) (s .pre .0) (s .args .s) (c .at .result) (s .pre .1)
+    (c .at .ensures .0) (i .if1 .left)
+
+pub is-state-spec : {M : Type 1} → statement M
+is-state-spec = tie.close (tie.spec returns at-requires returns-2)

@@ -1,0 +1,3 @@
+// Shrink: the classes of states that become one.
+pub mod classes;
+mod slots;

@@ -1,0 +1,66 @@
+use mathlib.Core.Path.{ap, _∙_}
+use Prim.Native.Nat.{ℕ}
+use lib.ListN.{getD}
+use Rattle.shrink_alike.specs.Faces.{mark-in}
+use Rattle.shrink_rows.proofs.Counting.{place-held, place-fresh}
+use borrow.Author.Needs.{needs}
+use Rattle.shrink_rows.proofs.places.place.Statement.{statement}
+use Rattle.shrink_rows.proofs.places.place.Tie as tie
+use Rattle.shrink_rows.proofs.places.place.Reads as reads
+use Rattle.shrink_rows.proofs.places.place.Lts as lts
+use Rattle.shrink_alike.proofs.index.at.Reads as at-reads
+
+-- src/places.rt:20:9
+at-requires : tie.Need-at-requires
+at-requires c κs = search needs
+
+-- src/places.rt:21:8
+at-requires-2 : tie.Need-at-requires-2
+at-requires-2 c κs = search needs
+
+-- src/places.rt:22:9
+returns : tie.Need-returns
+returns c =
+    let x = c .before in
+    let h = x .before .before in
+    let a = h .before .args in
+    place-held (a .number .now) (mark-in (a .class .now) (a .s)) (a .m) (x .at2 .result)
+    (x .at2 .ensures .0 ∙ ap (λ (z : ℕ). getD (a .number .now) z 0) (h .at .ensures .0)) (c .if1 .taken)
+
+-- src/places.rt:24:17
+cast-number : tie.Need-cast-number
+cast-number c = search needs
+
+-- src/places.rt:24:5
+mul-number : tie.Need-mul-number
+mul-number c = search needs
+
+-- src/places.rt:24:5
+element-write-number : tie.Need-element-write-number
+element-write-number c = search needs
+
+-- src/places.rt:25:5
+add-result : tie.Need-add-result
+add-result c = search needs
+
+-- src/places.rt:16:1
+returns-2 : tie.Need-returns-2
+returns-2 c =
+    let x = c .before in
+    let h = x .before .before in
+    let a = h .before .args in
+    place-fresh (a .number .now) (mark-in (a .class .now) (a .s)) (h .at .result) (a .m) (x .at2 .result)
+    (h .at .ensures .0) (x .at2 .ensures .0) (c .if1 .left)
+
+pub place-spec : {M : Type 1} → statement M
+place-spec =
+    tie.close
+    (tie.spec
+    at-requires
+    at-requires-2
+    returns
+    cast-number
+    mul-number
+    element-write-number
+    add-result
+    returns-2)

@@ -1,0 +1,3 @@
+// Shrink: the classes numbered, and the rows of the shrunk table.
+pub mod emit;
+pub mod places;
