@@ -1,9 +1,9 @@
 // Document 01, module 2: build.
+use build_strings::Table;
 use paper::Making;
 use paper::Production;
 use paper::Refusal;
 use rows::numbers;
-use strings::Table;
 ghost use mathlib.Core.Path.{_≡_};
 ghost use lib.ListN.{length};
 ghost use Rattle.paper.specs.Answers.{Makes};
@@ -17,7 +17,7 @@ fn written(production: Production, tokens: &[u16], lengths: &[usize], out: &mut 
         r (now (out .entry)) (now (out .exit)) ⌝ }
 {
     let mut buf = [0i32; 4608];
-    let made = strings::add_all(&mut buf, production, tokens, lengths);
+    let made = build_strings::add_all(&mut buf, production, tokens, lengths);
     match made {
         Table::Full => Making::Refused(Refusal::Full),
         Table::Rows { lo, rows, code, k } => grow::finish(&buf, lo, rows, code, k, out),

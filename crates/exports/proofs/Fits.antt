@@ -19,8 +19,8 @@ use Rattle.paper.specs.Text.{lines, read-lines, text-in}
 use Rattle.trees.proofs.Accepted.{check-passed, unite-sound}
 use Rattle.trees.proofs.Fits.{range-fits}
 use Rattle.promises.specs.Demand.{shrink-made}
-use Rattle.lists.specs.Call.{lists-in, lists-lengths, unite-all, table-of}
-use Rattle.lists.proofs.Kept.{signed-fits, built-small}
+use Rattle.intake_lists.specs.Call.{lists-in, lists-lengths, unite-all, table-of}
+use Rattle.intake_lists.proofs.Kept.{signed-fits, built-small}
 
 -- what followed an acceptance accepted
 then-accepted : {A B : Type 0} (g : Ruling A) (f : A → Ruling B) (b : B) → then g f ≡ accept b →

@@ -9,7 +9,7 @@ ghost use Rattle.paper.specs.Predict.{predict};
 ghost use Rattle.paper.specs.Explain.{matched-count, stretch};
 ghost use Rattle.paper.specs.Text.{text-in, text-out};
 ghost use Rattle.paper.specs.Batch.{batch};
-ghost use Rattle.lists.specs.Call.{table-of};
+ghost use Rattle.intake_lists.specs.Call.{table-of};
 ghost use Rattle.handed.specs.Handed.{mode-of, table-checked, of-chosen, of-count, of-stretch, returned};
 ghost use Rattle.handed.specs.Handed.{Hands, Handed-table, Handed-read, Handed-written};
 

@@ -10,8 +10,8 @@ ghost use Prim.Native.Nat.{_+_, _*_, _<_, _≤_, max};
 ghost use lib.ListN.{length};
 ghost use Rattle.paper.specs.Answers.{Makes};
 ghost use Rattle.paper.specs.Build.{within};
-ghost use Rattle.arrays.specs.Moves.{front};
-ghost use Rattle.arrays.specs.Held.{view, row-held, Laid, table-of, Seeks, Adding, Added, Giving, Given, Coded};
+ghost use Rattle.grow_laws.specs.Moves.{front};
+ghost use Rattle.grow_laws.specs.Held.{view, row-held, Laid, table-of, Seeks, Adding, Added, Giving, Given, Coded};
 
 // The row of a state and a terminal among n rows, or where it would go.
 pub fn find(buf: &[i32], lo: usize, n: usize, s: State, t: Terminal) -> Found
@@ -56,7 +56,7 @@ pub fn add(
     let terminal = numbers::number_of(t.0 as usize);
     let to = numbers::number_of(n + 1);
     let production = numbers::production_of(code);
-    ends::insert(buf, lo, n, i, from, terminal, to, production)
+    grow_ends::insert(buf, lo, n, i, from, terminal, to, production)
 }
 
 // The state that row i of n leads to gets the production of a code.

@@ -1,6 +1,6 @@
 // Check 1 of the lists as they are lent.
 ghost use mathlib.Core.Path.{_≡_};
-ghost use Rattle.lists.specs.Call.{lists-lengths};
+ghost use Rattle.intake_lists.specs.Call.{lists-lengths};
 
 // 1 LENGTH.
 pub fn lengths(

@@ -7,8 +7,8 @@ mod checks;
 ghost use lib.ListN.{length};
 ghost use Rattle.paper.specs.Answers.{then, Makes};
 ghost use Rattle.promises.specs.Demand.{shrink-made};
-ghost use Rattle.lists.specs.Call.{lists-in, unite-all, table-of};
-ghost use Rattle.lists.specs.Held.{Passed};
+ghost use Rattle.intake_lists.specs.Call.{lists-in, unite-all, table-of};
+ghost use Rattle.intake_lists.specs.Held.{Passed};
 
 // The lists united in arrays of their own, and the shrunk table's rows at the front of the output.
 // Held on the stack: two arrays of 16 KiB for the tables that are united, and one of 64 KiB, the length that build and
@@ -27,7 +27,7 @@ fn shrunk(
     let mut a = [0i32; 4096];
     let mut b = [0i32; 4096];
     let mut work = [0i32; 16384];
-    let united = joining::unite_all(
+    let united = intake_joining::unite_all(
         productions,
         counts,
         lengths,
@@ -36,7 +36,7 @@ fn shrunk(
         &mut b,
         &mut work,
     );
-    steps::finish(united, &a, out)
+    intake_steps::finish(united, &a, out)
 }
 
 // The lists built, united one after the other and shrunk, all in intake mode. List i has the production

@@ -25,13 +25,13 @@ use Rattle.rows.specs.Verdicts.{Judges, follow}
 use Rattle.rows.specs.declared.verdict.Verdict.{Verdict}
 use Rattle.rows.specs.declared.verdict.Verdict.the-variants.{Pass, Refused}
 use Rattle.rows.proofs.Judged.{judged}
-use Rattle.arrays.specs.Moves.{front}
-use Rattle.arrays.specs.Held.{held, Laid, table-of}
-use Rattle.arrays.proofs.Fronts.{front-read}
-use Rattle.arrays.proofs.Answered.{within-full}
+use Rattle.grow_laws.specs.Moves.{front}
+use Rattle.grow_laws.specs.Held.{held, Laid, table-of}
+use Rattle.grow_laws.proofs.Fronts.{front-read}
+use Rattle.grow_laws.proofs.Answered.{within-full}
 use Rattle.trees.proofs.Tree.{Tree}
 use Rattle.unite.specs.Whole.{Passes}
-use Rattle.taking.specs.Taking.{
+use Rattle.unite_taking.specs.Taking.{
   all-rows,
   Unites,
   Clashes,
@@ -42,7 +42,7 @@ use Rattle.taking.specs.Taking.{
   Treed,
   joining,
 }
-use Rattle.taking.specs.declared.Union.{Union}
+use Rattle.unite_taking.specs.declared.Union.{Union}
 
 -- ---- the rows
 module _ (mode : Mode) (xs ys : List Row) where

@@ -21,7 +21,7 @@ use Rattle.rows.proofs.Judged.{passes-first, passed, bounded}
 use Rattle.trees.specs.Trees as trees
 use Rattle.trees.proofs.Tree.{Tree, into}
 use Rattle.trees.proofs.Checked.{passes-tree}
-use Rattle.taking.specs.Taking.{Treed}
+use Rattle.unite_taking.specs.Taking.{Treed}
 use Rattle.unite.specs.Whole.{Sized, Passes}
 
 -- the checks 2 to 7, one by one

@@ -1,12 +1,12 @@
 // Document 01, module 3: unite.
-use meet::Meet;
 use paper::Making;
 use paper::Mode;
 use paper::Refusal;
 use rows::numbers;
 use rows::verdict::Verdict;
-use scan::Scan;
-use taking::Union;
+use unite_meet::Meet;
+use unite_scan::Scan;
+use unite_taking::Union;
 ghost use Prim.Native.Nat.{_≤_};
 ghost use lib.ListN.{length};
 ghost use Rattle.paper.specs.Rows.{rows-in, table};
@@ -14,7 +14,7 @@ ghost use Rattle.paper.specs.Answers.{Makes};
 ghost use Rattle.paper.specs.Checks.{first, tree};
 ghost use Rattle.paper.specs.Unite.{united, unite};
 ghost use Rattle.rows.specs.Places.{uncoded};
-ghost use Rattle.taking.specs.Taking.{Treed, Overflows, Refuses, joining};
+ghost use Rattle.unite_taking.specs.Taking.{Treed, Overflows, Refuses, joining};
 ghost use Rattle.unite.specs.Whole.{Passes, Sized};
 
 // The rows do not fit: CLASH, wherever it stands, comes before 14.
@@ -23,7 +23,7 @@ fn full(mode: Mode, a: &[i32], b: &[i32]) -> Making
     ensures { λ r. ⌜ Refuses mode (rows-in (now (a .entry))) (rows-in (now (b .entry))) r ⌝ }
 {
     let mut map = [0u16; 1024];
-    let found = scan::clash(mode, a, b, &mut map);
+    let found = unite_scan::clash(mode, a, b, &mut map);
     match found {
         Scan::Clash(p, q) => Making::Refused(Refusal::Clash(p, q)),
         Scan::Free => Making::Refused(Refusal::Full),
@@ -40,7 +40,7 @@ fn joined(mode: Mode, code: usize, k: usize, a: &[i32], b: &[i32], out: &mut [i3
     let mut buf = [0i32; 4608];
     let mut map = [0u16; 1024];
     grow::copy_rows(a, &mut buf, 128);
-    let union = taking::take_rows(mode, &mut buf, 128, a.len() / 4, b, &mut map);
+    let union = unite_taking::take_rows(mode, &mut buf, 128, a.len() / 4, b, &mut map);
     match union {
         Union::Clash(p, q) => Making::Refused(Refusal::Clash(p, q)),
         Union::Full => full(mode, a, b),
@@ -63,10 +63,10 @@ fn united(
     ensures { λ r. ⌜ Makes (united mode (table prod0a ka (now (a .entry))) (table prod0b kb (now (b .entry))))
         r (now (out .entry)) (now (out .exit)) ⌝ }
 {
-    let root = meet::root(mode, numbers::coded(prod0a), numbers::coded(prod0b));
+    let root = unite_meet::root(mode, numbers::coded(prod0a), numbers::coded(prod0b));
     match root {
         Meet::Clash(p, q) => Making::Refused(Refusal::Clash(p, q)),
-        Meet::Code(code) => joined(mode, code, meet::united_k(mode, ka, kb), a, b, out),
+        Meet::Code(code) => joined(mode, code, unite_meet::united_k(mode, ka, kb), a, b, out),
     }
 }
 

@@ -1,15 +1,15 @@
 use native.Mathlib.Omega.{arith}
 use Rattle.paper.specs.Build.{built, strings}
-use Rattle.arrays.specs.Held.{view}
-use Rattle.arrays.proofs.Answered.{laid-none, answers-full}
-use Rattle.strings.specs.Listing.{Holds}
+use Rattle.grow_laws.specs.Held.{view}
+use Rattle.grow_laws.proofs.Answered.{laid-none, answers-full}
+use Rattle.build_strings.specs.Listing.{Holds}
 use Rattle.build.proofs.Answering.{makes-as}
 use borrow.Author.Needs.{needs}
 use Rattle.build.proofs.written.Statement.{statement}
 use Rattle.build.proofs.written.Tie as tie
 use Rattle.build.proofs.written.Reads as reads
 use Rattle.build.proofs.written.Lts as lts
-use Rattle.strings.proofs.add_all.Reads as add-all-reads
+use Rattle.build_strings.proofs.add_all.Reads as add-all-reads
 use Rattle.grow.proofs.finish.Reads as finish-reads
 
 slice-aggregate-add-all : tie.Need-slice-aggregate-add-all

@@ -2,16 +2,16 @@ use mathlib.Core.Path.{ap, _∙_}
 use native.Mathlib.Omega.{arith}
 use native.Mathlib.Numerals.{add-one}
 use lib.IntN.{pos}
-use Rattle.arrays.specs.Held.{view}
-use Rattle.arrays.proofs.Shifted.{passed-number, passed-production}
-use Rattle.arrays.proofs.PutIn.{inserted-as}
-use Rattle.arrays.proofs.Placed.{place-within, added}
+use Rattle.grow_laws.specs.Held.{view}
+use Rattle.grow_laws.proofs.Shifted.{passed-number, passed-production}
+use Rattle.grow_laws.proofs.PutIn.{inserted-as}
+use Rattle.grow_laws.proofs.Placed.{place-within, added}
 use borrow.Author.Needs.{needs}
 use Rattle.grow.proofs.add.Statement.{statement}
 use Rattle.grow.proofs.add.Tie as tie
 use Rattle.grow.proofs.add.Reads as reads
 use Rattle.grow.proofs.add.Lts as lts
-use Rattle.ends.proofs.insert.Reads as insert-reads
+use Rattle.grow_ends.proofs.insert.Reads as insert-reads
 use Rattle.rows.proofs.numbers.number_of.Reads as number-of-reads
 use Rattle.rows.proofs.numbers.production_of.Reads as production-of-reads
 

@@ -1,5 +1,5 @@
 use borrow.Author.Needs.{needs}
-use Rattle.arrays.proofs.Viewed.{reach, code-read}
+use Rattle.grow_laws.proofs.Viewed.{reach, code-read}
 use Rattle.grow.proofs.code_at.Statement.{statement}
 use Rattle.grow.proofs.code_at.Tie as tie
 use Rattle.grow.proofs.code_at.Reads as reads

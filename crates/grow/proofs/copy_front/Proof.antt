@@ -8,7 +8,7 @@ use mir.Syntax.{w32}
 use mir.Val.{toZ, ofZ}
 use borrow.Author.Needs.{needs}
 use Rattle.rows.proofs.Signed.{back}
-use Rattle.arrays.proofs.Fronts.{part, part-next, part-all}
+use Rattle.grow_laws.proofs.Fronts.{part, part-next, part-all}
 use Rattle.grow.proofs.copy_front.Statement.{statement}
 use Rattle.grow.proofs.copy_front.Tie as tie
 use Rattle.grow.proofs.copy_front.Reads as reads

@@ -1,8 +1,8 @@
 use mathlib.Core.Path.{ap, _∙_}
 use Prim.Native.Nat.{_*_}
 use native.Mathlib.Omega.{arith}
-use Rattle.arrays.specs.Moves.{front}
-use Rattle.arrays.proofs.Viewed.{part-is, back-is}
+use Rattle.grow_laws.specs.Moves.{front}
+use Rattle.grow_laws.proofs.Viewed.{part-is, back-is}
 use borrow.Author.Needs.{needs}
 use Rattle.grow.proofs.copy_rows.Statement.{statement}
 use Rattle.grow.proofs.copy_rows.Tie as tie

@@ -3,9 +3,9 @@ use mathlib.Core.List.{List}
 use Prim.Native.Nat.{_*_}
 use lib.IntN.{ℤ}
 use Rattle.rows.specs.Search.{Finds}
-use Rattle.arrays.specs.Held.{view}
+use Rattle.grow_laws.specs.Held.{view}
 use native.Mathlib.Omega.{arith}
-use Rattle.arrays.proofs.Viewed.{reach, rows-part, seeks}
+use Rattle.grow_laws.proofs.Viewed.{reach, rows-part, seeks}
 use borrow.Author.Needs.{needs}
 use Rattle.grow.proofs.find.Statement.{statement}
 use Rattle.grow.proofs.find.Tie as tie

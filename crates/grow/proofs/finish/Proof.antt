@@ -2,11 +2,11 @@ use mathlib.Core.Path.{ap, _∙_}
 use mathlib.Core.List.{List}
 use Prim.Native.Nat.{_*_}
 use lib.IntN.{ℤ}
-use Rattle.arrays.specs.Moves.{front}
-use Rattle.arrays.specs.Held.{view}
-use Rattle.arrays.proofs.Shifted.{passed-production}
-use Rattle.arrays.proofs.Answered.{answers}
-use Rattle.arrays.proofs.Viewed.{reach, rows-part}
+use Rattle.grow_laws.specs.Moves.{front}
+use Rattle.grow_laws.specs.Held.{view}
+use Rattle.grow_laws.proofs.Shifted.{passed-production}
+use Rattle.grow_laws.proofs.Answered.{answers}
+use Rattle.grow_laws.proofs.Viewed.{reach, rows-part}
 use borrow.Author.Needs.{needs}
 use Rattle.grow.proofs.finish.Statement.{statement}
 use Rattle.grow.proofs.finish.Tie as tie

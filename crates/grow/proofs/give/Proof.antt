@@ -1,10 +1,10 @@
 use Prim.Native.Nat.{_+_, _*_}
 use mathlib.Core.Path.{ap, _∙_}
 use lib.ListN.{length, set, length-set}
-use Rattle.arrays.specs.Held.{view}
-use Rattle.arrays.proofs.Shifted.{passed-production}
-use Rattle.arrays.proofs.Painted.{given}
-use Rattle.arrays.proofs.Viewed.{reach, view-set}
+use Rattle.grow_laws.specs.Held.{view}
+use Rattle.grow_laws.proofs.Shifted.{passed-production}
+use Rattle.grow_laws.proofs.Painted.{given}
+use Rattle.grow_laws.proofs.Viewed.{reach, view-set}
 use borrow.Author.Needs.{needs}
 use Rattle.grow.proofs.give.Statement.{statement}
 use Rattle.grow.proofs.give.Tie as tie

@@ -1,6 +1,6 @@
 use native.Mathlib.Omega.{arith}
 use borrow.Author.Needs.{needs}
-use Rattle.arrays.proofs.Viewed.{reach, to-read}
+use Rattle.grow_laws.proofs.Viewed.{reach, to-read}
 use Rattle.grow.proofs.to_at.Statement.{statement}
 use Rattle.grow.proofs.to_at.Tie as tie
 use Rattle.grow.proofs.to_at.Reads as reads

@@ -1,5 +1,5 @@
 -- `shrunk`: the united table is shrunk. Assumes nothing.
-use Rattle.lists.proofs.Answering.{shrunk-held}
+use Rattle.intake_lists.proofs.Answering.{shrunk-held}
 use borrow.Author.Needs.{needs}
 use Rattle.intake.proofs.shrunk.Statement.{statement}
 use Rattle.intake.proofs.shrunk.Tie as tie

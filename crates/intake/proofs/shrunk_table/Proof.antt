@@ -1,8 +1,8 @@
 -- `shrunk_table` meets its contract: check 1, then the lists. Assumes nothing.
 use mathlib.Core.Path.{sym, _∙_}
 use lib.ListN.{length}
-use Rattle.lists.proofs.Lengths.{passed}
-use Rattle.lists.proofs.Answering.{refused-lengths, taken}
+use Rattle.intake_lists.proofs.Lengths.{passed}
+use Rattle.intake_lists.proofs.Answering.{refused-lengths, taken}
 use borrow.Author.Needs.{needs}
 use Rattle.intake.proofs.shrunk_table.Statement.{statement}
 use Rattle.intake.proofs.shrunk_table.Tie as tie

@@ -6,7 +6,7 @@ use Rattle.unite.proofs.full.Statement.{statement}
 use Rattle.unite.proofs.full.Tie as tie
 use Rattle.unite.proofs.full.Reads as reads
 use Rattle.unite.proofs.full.Lts as lts
-use Rattle.scan.proofs.clash.Reads as clash-reads
+use Rattle.unite_scan.proofs.clash.Reads as clash-reads
 
 clash-requires : tie.Need-clash-requires
 clash-requires c κs = (c .before .pre .0, c .before .pre .1, clear)

@@ -4,11 +4,11 @@ use native.Mathlib.Omega.{arith}
 use lib.ListN.{length, length-drop}
 use Rattle.paper.specs.Rows.{rows-in}
 use Rattle.rows.specs.Places.{uncoded}
-use Rattle.arrays.specs.Held.{view}
+use Rattle.grow_laws.specs.Held.{view}
 use Rattle.ruled.proofs.Arrays.{clear}
 use Rattle.trees.proofs.Tree.{Tree}
-use Rattle.taking.specs.Taking.{United-rows}
-use Rattle.taking.specs.declared.Union.{Union}
+use Rattle.unite_taking.specs.Taking.{United-rows}
+use Rattle.unite_taking.specs.declared.Union.{Union}
 use Rattle.unite.proofs.Outcomes.{clash-refuses, rows-make, union-as, copied-laid, copied-rows}
 use borrow.Author.Needs.{needs}
 use Rattle.unite.proofs.joined.Statement.{statement}
@@ -18,7 +18,7 @@ use Rattle.unite.proofs.joined.Lts as lts
 use Rattle.grow.proofs.copy_rows.Reads as copy-rows-reads
 use Rattle.grow.proofs.finish.Reads as finish-reads
 use Rattle.unite.proofs.full.Reads as full-reads
-use Rattle.taking.proofs.take_rows.Reads as take-rows-reads
+use Rattle.unite_taking.proofs.take_rows.Reads as take-rows-reads
 
 slice-aggregate-copy-rows : tie.Need-slice-aggregate-copy-rows
 slice-aggregate-copy-rows c = search needs

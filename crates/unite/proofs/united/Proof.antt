@@ -5,10 +5,10 @@ use Rattle.paper.specs.Rows.{accepting, table}
 use Rattle.paper.specs.Unite.{root}
 use Rattle.rows.specs.Places.{code, uncoded}
 use Rattle.rows.proofs.Signed.{read-passed}
-use Rattle.meet.specs.Met.{Meets}
-use Rattle.meet.specs.declared.Meet.{Meet}
+use Rattle.unite_meet.specs.Met.{Meets}
+use Rattle.unite_meet.specs.declared.Meet.{Meet}
 use Rattle.rows.proofs.Codes.{uncoded-code}
-use Rattle.meet.proofs.Meets.{meets-as}
+use Rattle.unite_meet.proofs.Meets.{meets-as}
 use Rattle.unite.proofs.Passing.{prod0-in, treed}
 use Rattle.unite.proofs.Outcomes.{root-refuses, root-makes}
 use borrow.Author.Needs.{needs}
@@ -18,8 +18,8 @@ use Rattle.unite.proofs.united.Reads as reads
 use Rattle.unite.proofs.united.Lts as lts
 use Rattle.rows.proofs.numbers.coded.Reads as coded-reads
 use Rattle.unite.proofs.joined.Reads as joined-reads
-use Rattle.meet.proofs.root.Reads as root-reads
-use Rattle.meet.proofs.united_k.Reads as united-k-reads
+use Rattle.unite_meet.proofs.root.Reads as root-reads
+use Rattle.unite_meet.proofs.united_k.Reads as united-k-reads
 
 coded-requires : tie.Need-coded-requires
 coded-requires c κs = search needs

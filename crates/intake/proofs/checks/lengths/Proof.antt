@@ -2,7 +2,7 @@
 use mathlib.Core.Path.{ap, sym, _∙_}
 use mathlib.Core.Bool.{not}
 use borrow.Author.Tests.{not-true, not-false}
-use Rattle.lists.proofs.Lengths.{room-out, none-out, uneven-out, strings-out, tokens-left}
+use Rattle.intake_lists.proofs.Lengths.{room-out, none-out, uneven-out, strings-out, tokens-left}
 use borrow.Author.Needs.{needs}
 use Rattle.intake.proofs.checks.lengths.Statement.{statement}
 use Rattle.intake.proofs.checks.lengths.Tie as tie
