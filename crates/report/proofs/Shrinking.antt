@@ -24,8 +24,8 @@ use Rattle.merging.proofs.Promises.{shrunk-rows-le, shrunk-states-le}
 use Rattle.shrink.proofs.Parts.{slice-few}
 use Rattle.text_laws.proofs.Never.{refuse-accept}
 use Rattle.text_trips.proofs.Back.{passes}
-use Rattle.report.specs.declared.lines.Sizes.{Sizes}
-use Rattle.report.specs.Printed.{Small, three}
+use Rattle.report_lines.specs.declared.Sizes.{Sizes}
+use Rattle.report_lines.specs.Printed.{Small, three}
 use Rattle.report.specs.Rulings.{Taken, Sized, of-table}
 use Rattle.report.proofs.Refused.{refused-is}
 

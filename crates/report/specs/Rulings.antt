@@ -13,7 +13,7 @@ use Rattle.paper.specs.Checks.{row-slice, range}
 use Rattle.paper.specs.Shrink.{shrink-table}
 use Rattle.paper.specs.Text.{text-in}
 use Rattle.paper.specs.Tabrep.{lines-of}
-use Rattle.report.specs.declared.lines.Sizes.{Sizes}
+use Rattle.report_lines.specs.declared.Sizes.{Sizes}
 
 -- A table as text in gives it: a row slice of at most 4,096 rows, with numbers within bounds.
 pub record Taken (p : ℤ) (k : ℕ) (ns : List ℤ) : Type 0 where

@@ -1,12 +1,9 @@
 // Document 01's program `tabrep`: what it prints for a text.
-use crate::lines::Sizes;
 use paper::Making;
 use paper::Mode;
 use paper::Reading;
 use paper::Refusal;
-
-mod lines;
-
+use report_lines::Sizes;
 ghost use mathlib.Core.Path.{_≡_};
 ghost use Prim.Native.Nat.{_≤_};
 ghost use lib.ListN.{length};
@@ -38,7 +35,7 @@ fn with_intake(
             states,
         } => {
             let all = ruled::counts::state_count(rows);
-            lines::put_lines(
+            report_lines::put_lines(
                 out,
                 Sizes {
                     states: all,
@@ -51,7 +48,7 @@ fn with_intake(
                 },
             )
         }
-        Making::Refused(f) => lines::put_refused(out, f),
+        Making::Refused(f) => report_lines::put_refused(out, f),
     }
 }
 
@@ -72,7 +69,7 @@ fn with_archive(prod0: i32, k: usize, rows: &[i32], spare: &mut [i32], out: &mut
             let sizes = Sizes { states, rows: kept };
             with_intake(prod0, k, rows, sizes, spare, out)
         }
-        Making::Refused(f) => lines::put_refused(out, f),
+        Making::Refused(f) => report_lines::put_refused(out, f),
     }
 }
 
@@ -84,7 +81,7 @@ fn with_table(input: &[u8], buf: &mut [i32], spare: &mut [i32], out: &mut [u8]) 
     let reading = text_in::text_in(input, buf);
     match reading {
         Reading::Read { prod0, k, rows } => with_archive(prod0, k, &buf[..rows * 4], spare, out),
-        Reading::Refused(f) => lines::put_refused(out, f),
+        Reading::Refused(f) => report_lines::put_refused(out, f),
     }
 }
 
@@ -93,7 +90,7 @@ pub fn report(input: &[u8], out: &mut [u8; 64]) -> usize
     ensures { λ r. ⌜ Prints (tabrep (now (input .entry))) (now (out .entry)) (now (out .exit)) r ⌝ }
 {
     if 65536 < input.len() {
-        return lines::put_refused(out, Refusal::Length);
+        return report_lines::put_refused(out, Refusal::Length);
     }
     let mut buf = [0i32; 16384];
     let mut spare = [0i32; 16384];

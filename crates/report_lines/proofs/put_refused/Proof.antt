@@ -1,10 +1,10 @@
 -- `report::lines::put_refused` meets its contract. Two writings, one after the other. Assumes nothing.
 use native.Mathlib.Omega.{arith}
 use Rattle.text_out.proofs.Written.{puts-on, puts-as}
-use Rattle.report.proofs.Parts.{refused-parts, number-small}
+use Rattle.report_lines.proofs.Parts.{refused-parts, number-small}
 use borrow.Author.Needs.{needs}
-use Rattle.report.proofs.lines.put_refused.Statement.{statement}
-use Rattle.report.proofs.lines.put_refused.Tie as tie
+use Rattle.report_lines.proofs.put_refused.Statement.{statement}
+use Rattle.report_lines.proofs.put_refused.Tie as tie
 
 slice-aggregate-put-field : tie.Need-slice-aggregate-put-field
 slice-aggregate-put-field c = search needs

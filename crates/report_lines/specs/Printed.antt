@@ -5,7 +5,7 @@ use mathlib.Core.List.{List, [], _∷_, _++_}
 use lib.IntN.{pos}
 use Rattle.paper.specs.Text.{decimal}
 use Rattle.paper.specs.Tabrep.{line}
-use Rattle.report.specs.declared.lines.Sizes.{Sizes}
+use Rattle.report_lines.specs.declared.Sizes.{Sizes}
 
 -- Sizes of five digits at most.
 pub record Small (x : Sizes) : Type 0 where

@@ -1,10 +1,10 @@
 -- `report::lines::put_lines` meets its contract. Three lines, each from where the one before it ends. Assumes nothing.
 use native.Mathlib.Omega.{arith}
 use Rattle.text_out.proofs.Written.{puts-on, puts-as}
-use Rattle.report.proofs.Parts.{three-parts}
+use Rattle.report_lines.proofs.Parts.{three-parts}
 use borrow.Author.Needs.{needs}
-use Rattle.report.proofs.lines.put_lines.Statement.{statement}
-use Rattle.report.proofs.lines.put_lines.Tie as tie
+use Rattle.report_lines.proofs.put_lines.Statement.{statement}
+use Rattle.report_lines.proofs.put_lines.Tie as tie
 
 slice-aggregate-put-line : tie.Need-slice-aggregate-put-line
 slice-aggregate-put-line c = search needs

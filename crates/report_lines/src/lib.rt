@@ -1,4 +1,4 @@
-// The lines that are printed.
+// The lines that `tabrep` prints.
 use paper::Refusal;
 use text_out::writing;
 ghost use Prim.Native.Nat.{_+_, _≤_};
@@ -6,7 +6,7 @@ ghost use lib.ListN.{length};
 ghost use Rattle.paper.specs.Answers.{number, detail, refuse};
 ghost use Rattle.paper.specs.Tabrep.{printed};
 ghost use Rattle.text_laws.specs.Put.{Puts};
-ghost use Rattle.report.specs.Printed.{labelled, three, Small};
+ghost use Rattle.report_lines.specs.Printed.{labelled, three, Small};
 
 // How many states and rows a table has.
 pub struct Sizes {

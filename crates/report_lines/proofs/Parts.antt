@@ -10,8 +10,8 @@ use Rattle.paper.specs.Answers.{number, detail, refuse}
 use Rattle.paper.specs.Text.{digits, decimal}
 use Rattle.paper.specs.Tabrep.{line, printed}
 use Rattle.text_laws.specs.Put.{Puts}
-use Rattle.report.specs.declared.lines.Sizes.{Sizes}
-use Rattle.report.specs.Printed.{labelled, three}
+use Rattle.report_lines.specs.declared.Sizes.{Sizes}
+use Rattle.report_lines.specs.Printed.{labelled, three}
 
 pub line-parts : (w : List ℕ) (a b : ℕ) →
     ((w ++ digits 5 a) ++ ((32 ∷ []) ++ digits 5 b)) ++ (10 ∷ []) ≡ labelled w a b

@@ -4,10 +4,10 @@ use mathlib.Core.Path.{_≡_}
 use native.Mathlib.Omega.{arith}
 use lib.ListN.{length}
 use Rattle.text_out.proofs.Written.{puts-on, puts-as}
-use Rattle.report.proofs.Parts.{line-parts, puts-room}
+use Rattle.report_lines.proofs.Parts.{line-parts, puts-room}
 use borrow.Author.Needs.{needs}
-use Rattle.report.proofs.lines.put_line.Statement.{statement}
-use Rattle.report.proofs.lines.put_line.Tie as tie
+use Rattle.report_lines.proofs.put_line.Statement.{statement}
+use Rattle.report_lines.proofs.put_line.Tie as tie
 
 put-field-requires : tie.Need-put-field-requires
 put-field-requires c κs = search needs
