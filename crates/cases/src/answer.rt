@@ -12,7 +12,9 @@ pub fn mode(n: usize) -> Mode {
     if n == 0 { Mode::Archive } else { Mode::Intake }
 }
 
-pub fn compared(bytes: &[u8], place: usize, making: Making, out: &[i32]) -> Outcome {
+// Whether an answer and the output are what a case says behind the length that it lent.
+pub fn compared(case: &[usize], making: Making, out: &[i32]) -> Outcome {
+    let expected = slice::after(case, 1);
     match making {
         Making::Made {
             prod0,
@@ -20,26 +22,20 @@ pub fn compared(bytes: &[u8], place: usize, making: Making, out: &[i32]) -> Outc
             rows,
             states,
         } => {
-            let next = number::expect(bytes, place, 0);
-            let next = number::expect_signed(bytes, next, prod0);
-            let counts = [k, states, rows];
-            let next = number::expect_each(bytes, next, &counts);
+            let turned = slice::at(expected, 1);
+            let counts = [0, turned, k, states, rows];
+            let is_right = slice::is_same(slice::front_lengths(expected, 5), &counts);
             Outcome {
                 number: 0,
-                right: are_rows(bytes, next, numbers_of(rows), out),
+                right: is_right
+                    && number::signed(turned) == prod0
+                    && are_rows(out, slice::after(expected, 5), numbers_of(rows)),
             }
         }
-        Making::Refused(refusal) => refused(bytes, place, refusal, out),
-    }
-}
-
-fn refused(bytes: &[u8], place: usize, refusal: Refusal, out: &[i32]) -> Outcome {
-    let number = refusal.number();
-    let next = number::expect(bytes, place, number);
-    let next = expect_details(bytes, next, refusal);
-    Outcome {
-        number,
-        right: are_rows(bytes, next, 0, out),
+        Making::Refused(refusal) => Outcome {
+            number: refusal.number(),
+            right: is_refused(expected, refusal) && slice::is_filled(out, 0),
+        },
     }
 }
 
@@ -48,22 +44,24 @@ pub fn numbers_of(rows: usize) -> usize {
     if rows < 4097 { rows * 4 } else { 0 }
 }
 
-// Whether the first n numbers of the output are the rest of the case, and the others as they were.
-fn are_rows(bytes: &[u8], place: usize, n: usize, out: &[i32]) -> bool {
-    let next = slice::expect_numbers(bytes, place, slice::front_numbers(out, n));
-    if next != bytes.len() {
-        return false;
-    }
-    slice::is_filled(out, n)
+// Whether the first n numbers of the output are the rest of a case, and the others as they were.
+fn are_rows(out: &[i32], expected: &[usize], n: usize) -> bool {
+    expected.len() == n && slice::begins(out, expected) && slice::is_filled(out, n)
 }
 
-// The pair of a clash.
-fn expect_details(bytes: &[u8], place: usize, refusal: Refusal) -> usize {
+// The number alone, but for a clash, which has its pair.
+fn is_refused(expected: &[usize], refusal: Refusal) -> bool {
     match refusal {
         Refusal::Clash(first, second) => {
-            let pair = [first.0 as usize, second.0 as usize];
-            number::expect_each(bytes, place, &pair)
+            let numbers = [8, first.0 as usize, second.0 as usize];
+            slice::is_same(expected, &numbers)
         }
-        _ => place,
+        _ => is_number(expected, refusal.number()),
     }
+}
+
+// A refusal's number and nothing behind it.
+pub fn is_number(expected: &[usize], number: usize) -> bool {
+    let numbers = [number];
+    slice::is_same(expected, &numbers)
 }

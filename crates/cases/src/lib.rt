@@ -1,4 +1,4 @@
-// Reads the cases of the fixed list (oracle/list/README.md has their form) and keeps the tally of a replay.
+// Reads the cases of the fixed list (oracle/list/README.md has their form) and keeps the tally of a run.
 pub mod answer;
 pub mod number;
 pub mod slice;

@@ -1,19 +1,33 @@
 // The numbers of a case: 7 bits a byte, low bits first, the top bit set if more bytes follow.
-ghost use Prim.Native.Nat.{_<_};
 
-// A number, and the place behind it.
-pub struct Read {
-    pub value: usize,
-    pub next: usize,
+// The numbers of some bytes at the end of a slice, and the place of the first: from the last byte to the first, so that
+// each step only appends low bits.
+pub fn read(bytes: &[u8], numbers: &mut [usize]) -> usize {
+    let mut first = numbers.len();
+    let mut i = bytes.len();
+    while 0 < i {
+        i -= 1;
+        first = put(bytes[i], first, numbers);
+    }
+    first
 }
 
-// The number at a place; past the end it is 0.
-pub fn unsigned(bytes: &[u8], place: usize) -> Read {
-    let next = end(bytes, place);
-    Read {
-        value: value(bytes, place, next),
-        next,
+// A byte before the numbers from first on: without a top bit it is the high end of a number of its own.
+fn put(byte: u8, first: usize, numbers: &mut [usize]) -> usize {
+    if byte < 128 {
+        if first == 0 {
+            return first;
+        }
+        if numbers.len() < first {
+            return first;
+        }
+        numbers[first - 1] = byte as usize;
+        return first - 1;
     }
+    if first < numbers.len() {
+        numbers[first] = numbers[first] % 144115188075855872 * 128 + (byte % 128) as usize;
+    }
+    first
 }
 
 // The number that an unsigned one stands for: 0, -1, 1, -2, 2 and so on. What is too large for an i32 is 0.
@@ -26,85 +40,5 @@ pub fn signed(turned: usize) -> i32 {
         half as i32
     } else {
         -1 - (half as i32)
-    }
-}
-
-// No place of a case: a comparison failed.
-pub const NOWHERE: usize = 18446744073709551615;
-
-// The place behind the number at a place, if there is one and it is n.
-pub fn expect(bytes: &[u8], place: usize, n: usize) -> usize {
-    let read = unsigned(bytes, place);
-    if place < bytes.len() && read.value == n {
-        read.next
-    } else {
-        NOWHERE
-    }
-}
-
-// The same of several numbers, one after the other.
-pub fn expect_each(bytes: &[u8], place: usize, ns: &[usize]) -> usize {
-    let mut next = place;
-    let mut i = 0;
-    while i < ns.len() {
-        next = expect(bytes, next, ns[i]);
-        i += 1;
-    }
-    next
-}
-
-// The same of a signed number.
-pub fn expect_signed(bytes: &[u8], place: usize, x: i32) -> usize {
-    let read = unsigned(bytes, place);
-    if place < bytes.len() && signed(read.value) == x {
-        read.next
-    } else {
-        NOWHERE
-    }
-}
-
-// The place behind the first byte from a place on that has no top bit.
-fn end(bytes: &[u8], place: usize) -> usize {
-    let mut i = place;
-    while i < bytes.len() {
-        if bytes[i] < 128 {
-            return i + 1;
-        }
-        i += 1;
-    }
-    i
-}
-
-// From the last byte to the first, so that each step only appends low bits.
-fn value(bytes: &[u8], place: usize, end: usize) -> usize {
-    let mut v = 0;
-    let mut i = end;
-    while place < i {
-        i -= 1;
-        v = appended(v, low_bits(bytes, i));
-    }
-    v
-}
-
-fn low_bits(bytes: &[u8], i: usize) -> usize
-    ensures { λ r. ⌜ r < 128 ⌝ }
-{
-    if i < bytes.len() { low(bytes[i]) } else { 0 }
-}
-
-fn low(b: u8) -> usize
-    ensures { λ r. ⌜ r < 128 ⌝ }
-{
-    b as usize % 128
-}
-
-// The test spares a number of over 64 bits, which stands nowhere in the list.
-fn appended(v: usize, low: usize) -> usize
-    requires { ⌜ low < 128 ⌝ }
-{
-    if v < 144115188075855872 {
-        v * 128 + low
-    } else {
-        v
     }
 }

@@ -1,70 +1,91 @@
-// Slices of a case, and the comparing of slices.
+// The parts of a case, and the comparing of slices.
 use crate::number;
 ghost use Prim.Native.Nat.{_≤_};
 ghost use mathlib.Core.Path.{_≡_};
 ghost use lib.ListN.{length, take};
 
-// n signed numbers to the front of out, as far as it reaches, and the place behind them.
-pub fn numbers(bytes: &[u8], place: usize, n: usize, out: &mut [i32]) -> usize {
-    let mut next = place;
+// The number at a place; past the end it is 0.
+pub fn at(numbers: &[usize], i: usize) -> usize {
+    if i < numbers.len() { numbers[i] } else { 0 }
+}
+
+// What stands behind the first n, or nothing.
+pub fn after(numbers: &[usize], n: usize) -> &[usize] {
+    if numbers.len() < n {
+        &numbers[numbers.len()..]
+    } else {
+        &numbers[n..]
+    }
+}
+
+// The head of a table, how many numbers its rows have, and the place behind them.
+pub struct Head {
+    pub prod0: i32,
+    pub k: usize,
+    pub count: usize,
+    pub next: usize,
+}
+
+// The table at a place of a case, its rows to the front of a slice, as far as both reach.
+pub fn table(case: &[usize], place: usize, rows: &mut [i32]) -> Head {
+    let head = after(case, place);
+    let count = at(head, 2);
+    numbers(front_lengths(after(head, 3), count), rows);
+    Head {
+        prod0: number::signed(at(head, 0)),
+        k: at(head, 1),
+        count,
+        next: behind(place, 3, count),
+    }
+}
+
+fn numbers(numbers: &[usize], out: &mut [i32]) {
     let mut i = 0;
-    while i < n {
-        if out.len() <= i {
-            return next;
-        }
-        let read = number::unsigned(bytes, next);
-        out[i] = number::signed(read.value);
-        next = read.next;
+    while i < numbers.len() && i < out.len() {
+        out[i] = number::signed(numbers[i]);
         i += 1;
     }
-    next
 }
 
-// n tokens to the front of out, as far as it reaches, and the place behind them.
-pub fn tokens(bytes: &[u8], place: usize, n: usize, out: &mut [u16]) -> usize {
-    let mut next = place;
+// The place behind a head and as many numbers. No case has a million.
+fn behind(place: usize, head: usize, count: usize) -> usize {
+    place % 1000000 + head % 1000000 + count % 1000000
+}
+
+// The tokens at a place of a case, to the front of a slice, as far as both reach; the place behind them.
+pub fn tokens(case: &[usize], place: usize, out: &mut [u16]) -> usize {
+    let head = after(case, place);
+    let numbers = front_lengths(after(head, 1), at(head, 0));
     let mut i = 0;
-    while i < n {
-        if out.len() <= i {
-            return next;
-        }
-        let read = number::unsigned(bytes, next);
-        out[i] = token(read.value);
-        next = read.next;
+    while i < numbers.len() && i < out.len() {
+        out[i] = (numbers[i] % 65536) as u16;
         i += 1;
     }
-    next
+    behind(place, 1, numbers.len())
 }
 
-fn token(n: usize) -> u16 {
-    (n % 65536) as u16
-}
-
-// n lengths to the front of out, as far as it reaches, and the place behind them.
-pub fn lengths(bytes: &[u8], place: usize, n: usize, out: &mut [usize]) -> usize {
-    let mut next = place;
+// Whether two slices hold the same numbers.
+pub fn is_same(a: &[usize], b: &[usize]) -> bool {
     let mut i = 0;
-    while i < n {
-        if out.len() <= i {
-            return next;
+    while i < a.len() {
+        if b.len() <= i || a[i] != b[i] {
+            return false;
         }
-        let read = number::unsigned(bytes, next);
-        out[i] = read.value;
-        next = read.next;
         i += 1;
     }
-    next
+    i == b.len()
 }
 
-// The place behind the signed numbers at a place, if they are those of a slice, one for one.
-pub fn expect_numbers(bytes: &[u8], place: usize, numbers: &[i32]) -> usize {
-    let mut next = place;
+// Whether a slice begins with the signed numbers of a case.
+pub fn begins(out: &[i32], numbers: &[usize]) -> bool {
     let mut i = 0;
     while i < numbers.len() {
-        next = number::expect_signed(bytes, next, numbers[i]);
+        if out.len() <= i || out[i] != number::signed(numbers[i]) {
+            return false;
+        }
         i += 1;
     }
-    next
+    true
 }
 
 // Whether a part is what stands in a whole from start on.
@@ -131,8 +152,16 @@ pub fn front_lengths(xs: &[usize], n: usize) -> &[usize] {
     if xs.len() < n { xs } else { &xs[..n] }
 }
 
+// Fills a slice with the pattern, and gives the length that a case lends of it. The contract is what `&mut out[..n]` asks.
+pub fn lent(case: &[usize], out: &mut [i32]) -> usize
+    ensures { λ r. ⌜ (r ≤ length (now (out .exit))) × (r ≡ length (take r (now (out .exit)))) ⌝ }
+{
+    fill(out);
+    room(out, at(case, 0))
+}
+
 // n, or the length of a slice if that is less. The contract is what `&mut out[..n]` asks.
-pub fn room(out: &[i32], n: usize) -> usize
+fn room(out: &[i32], n: usize) -> usize
     ensures { λ r. ⌜ (r ≤ length (now (out .entry))) × (r ≡ length (take r (now (out .entry)))) ⌝ }
 {
     if out.len() < n { out.len() } else { n }

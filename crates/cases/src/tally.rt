@@ -1,7 +1,7 @@
-// The cases of standard input one after the other, and the counts that a replay prints.
+// The cases of standard input one after the other, and the counts that a run prints.
+use crate::slice;
 use libc::STDIN_FILENO;
 use libc::STDOUT_FILENO;
-ghost use Prim.Native.Nat.{_<_};
 ghost use Rattle.io.specs.Counts.{Counts};
 
 // Counts of 17: at a refusal's number how often it was answered, at 0 the acceptances, then these two.
@@ -38,59 +38,58 @@ fn room(bytes: &[u8], n: usize) -> usize
 
 // The count of bytes of a case, or 0 at the end of the input.
 fn head() -> usize {
-    let mut four = [0u8; 4];
-    if io::read_full(STDIN_FILENO, &mut four) < 4 {
+    let mut three = [0u8; 3];
+    if io::read_full(STDIN_FILENO, &mut three) < 3 {
         return 0;
     }
-    pair(four[0], four[1]) + pair(four[2], four[3]) * 65536
+    sum(three[0], three[1], three[2])
 }
 
-fn pair(low: u8, high: u8) -> usize
-    ensures { λ r. ⌜ r < 65536 ⌝ }
-{
-    low as usize + high as usize * 256
+fn sum(low: u8, middle: u8, high: u8) -> usize {
+    low as usize + middle as usize * 256 + high as usize * 65536
 }
 
-// Counts a case; the first few that are wrong are named.
+// Counts a case, and names it by its place among them if it is one of the first few that are wrong.
 pub fn count(counts: &mut [usize], outcome: Outcome) {
-    let index = at(counts, CASES);
-    more(counts, CASES);
-    more(counts, outcome.number);
-    if outcome.right {
+    name(slice::at(counts, CASES), counts, outcome);
+    add(counts, outcome);
+}
+
+// Names a case that is wrong, unless some were named.
+pub fn name(index: usize, counts: &[usize], outcome: Outcome) {
+    if outcome.right || 5 <= slice::at(counts, WRONG) {
         return;
     }
-    if at(counts, WRONG) < 5 {
-        io::write_all(STDOUT_FILENO, b"case ");
-        io::print_decimal(STDOUT_FILENO, index as u64);
-        io::write_all(STDOUT_FILENO, b" wrong\n");
+    io::write_all(STDOUT_FILENO, b"case ");
+    io::print_decimal(STDOUT_FILENO, index as u64);
+    io::write_all(STDOUT_FILENO, b" wrong\n");
+}
+
+// Counts a case.
+pub fn add(counts: &mut [usize], outcome: Outcome) {
+    more(counts, CASES);
+    more(counts, outcome.number);
+    if !outcome.right {
+        more(counts, WRONG);
     }
-    more(counts, WRONG);
 }
 
-fn at(counts: &[usize], i: usize) -> usize {
-    if i < counts.len() { counts[i] } else { 0 }
-}
-
-fn more(counts: &mut [usize], i: usize) {
+pub fn more(counts: &mut [usize], i: usize) {
     if i < counts.len() {
-        counts[i] = one_more(counts[i]);
+        counts[i] = counts[i] % 1000000 + 1;
     }
 }
 
-fn one_more(n: usize) -> usize {
-    if n < 1000000 { n + 1 } else { n }
-}
-
-// The lines at the end of a replay.
+// The lines at the end of a run.
 pub fn report(counts: &[usize]) {
-    line(b"cases ", at(counts, CASES));
-    line(b"wrong ", at(counts, WRONG));
+    line(b"cases ", slice::at(counts, CASES));
+    line(b"wrong ", slice::at(counts, WRONG));
     let mut i = 1;
     while i < CASES {
-        refused(i, at(counts, i));
+        refused(i, slice::at(counts, i));
         i += 1;
     }
-    line(b"accepted ", at(counts, 0));
+    line(b"accepted ", slice::at(counts, 0));
 }
 
 fn refused(number: usize, count: usize) {

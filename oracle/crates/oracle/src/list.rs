@@ -1,32 +1,33 @@
-//! The fixed list of cases: one file for each call, made from fixed seeds. Its form is told in
+//! The fixed list of cases, made by hand and from fixed seeds. Its form is told in
 //! `oracle/list/README.md`.
 
 mod bounds;
 mod bytes;
-mod file;
+mod case;
+pub mod named;
 mod random;
 mod small;
 mod tables;
 mod traps;
-
-use std::path::PathBuf;
+mod written;
 
 pub use bytes::Bytes;
-pub use file::{File, List};
+pub use case::{Ask, CALLS, Said};
 pub use tables::{rust_tables, self_loop};
+pub use written::{List, NAME};
 
 /// The length that document 01 asks of an output slice.
 pub const ROOM: usize = 16_384;
 
-/// Where the file of a call stands, below `crates/`: it is the standard input of the program that
-/// replays it.
-pub fn path(call: &str) -> PathBuf {
-    [&format!("replay_{call}"), "stdin"].iter().collect()
-}
+/// Where the list stands, below `crates/`: it is the standard input of the program that replays it.
+pub const PATH: &str = "replay/stdin";
 
 /// The whole list.
 pub fn make() -> List {
     let mut list = List::default();
+    for named in named::all() {
+        list.named(&named);
+    }
     small::add(&mut list);
     traps::add(&mut list);
     bounds::add(&mut list);

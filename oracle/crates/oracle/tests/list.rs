@@ -9,21 +9,37 @@ fn repository() -> PathBuf {
     PathBuf::from(env!("CARGO_MANIFEST_DIR")).join("../../..")
 }
 
-fn committed(name: &str) -> Vec<u8> {
-    std::fs::read(repository().join("crates").join(list::path(name))).unwrap()
+fn committed() -> Vec<u8> {
+    std::fs::read(repository().join("crates").join(list::PATH)).unwrap()
 }
 
 #[test]
 fn made_again_it_is_the_same() {
     let list = list::make();
-    let mut total = 0;
-    for (name, file) in list.files() {
-        assert!(committed(name) == file.bytes, "{name}");
-        total += file.bytes.len();
-    }
-    assert!(total <= 1_200_000);
+    assert!(committed() == list.bytes);
+    assert!(list.bytes.len() <= 1_200_000);
     let readme = std::fs::read_to_string(repository().join("oracle/list/README.md")).unwrap();
     assert!(readme.contains(&list.counts()), "counts in list/README.md");
+}
+
+/// What the program that replays the list is to print: each name, then each call's counts.
+#[test]
+fn the_program_says_as_much() {
+    let mut lines = String::new();
+    for named in list::named::all() {
+        lines += &format!("ok {}\n", named.name);
+    }
+    for (name, mut counts) in list::CALLS.iter().zip(list::make().counts) {
+        let cases: usize = counts.values().map(|count| count.0).sum();
+        lines += &format!("{name}\ncases {cases}\nwrong 0\n");
+        let accepted = counts.remove(&0).unwrap().0;
+        for (number, (cases, _)) in counts {
+            lines += &format!("refused {number} {cases}\n");
+        }
+        lines += &format!("accepted {accepted}\n");
+    }
+    let path = repository().join("crates/replay/stdout");
+    assert_eq!(std::fs::read_to_string(path).unwrap(), lines);
 }
 
 /// Reads one case's numbers.
@@ -94,25 +110,58 @@ impl Numbers<'_> {
     }
 }
 
-/// Goes through a file's cases; `one` reads a case after its source and gives the number.
-fn through(name: &str, numbers: &[u64], one: fn(&mut Numbers) -> (Mode, u64)) {
-    let bytes = committed(name);
-    let mut rest = &bytes[..];
-    let mut seen = BTreeSet::new();
+/// Each case or name of the list: the number that it starts with, and the rest.
+fn parts(bytes: &[u8]) -> Vec<(u64, Numbers<'_>)> {
+    let mut parts = Vec::new();
+    let mut rest = bytes;
     while !rest.is_empty() {
-        let (count, after) = rest.split_first_chunk::<4>().unwrap();
-        let count = u32::from_le_bytes(*count) as usize;
+        let ([low, middle, high], after) = rest.split_first_chunk::<3>().unwrap();
+        let count = u32::from_le_bytes([*low, *middle, *high, 0]) as usize;
         assert!(count <= 120_000);
-        let mut case = Numbers(&after[..count]);
+        let mut part = Numbers(&after[..count]);
+        parts.push((part.unsigned(), part));
+        rest = &after[count..];
+    }
+    parts
+}
+
+/// Goes through a call's cases; `one` reads a case after its source and gives the number.
+fn through(name: &str, numbers: &[u64], one: fn(&mut Numbers) -> (Mode, u64)) {
+    let bytes = committed();
+    let mut seen = BTreeSet::new();
+    for (call, mut case) in parts(&bytes) {
+        if list::CALLS.get(call as usize) != Some(&name) {
+            continue;
+        }
         let source = case.unsigned();
         let (mode, number) = one(&mut case);
         assert!(case.0.is_empty(), "{name}");
         let domain = number == 0 || (8..=11).contains(&number);
         assert_eq!(domain && mode == Mode::Archive, source == 1, "{name}");
         seen.insert(number);
-        rest = &after[count..];
     }
     assert_eq!(numbers, seen.into_iter().collect::<Vec<u64>>(), "{name}");
+}
+
+/// A name stands behind its cases, and these behind the name before.
+#[test]
+fn names() {
+    let bytes = committed();
+    let mut named = list::named::all().into_iter();
+    let mut since = 0;
+    for (call, mut part) in parts(&bytes) {
+        if call != list::NAME {
+            assert!(call < list::NAME);
+            since += 1;
+            continue;
+        }
+        let next = named.next().unwrap();
+        assert_eq!(since, part.unsigned());
+        assert_eq!(since as usize, next.cases.len());
+        assert_eq!(next.name.as_bytes(), part.0);
+        since = 0;
+    }
+    assert!(named.next().is_none());
 }
 
 fn number<T>(answer: &Answer<T>) -> u64 {

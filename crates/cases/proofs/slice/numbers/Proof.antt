@@ -7,28 +7,25 @@ use Rattle.cases.proofs.slice.numbers.Statement.{statement}
 use Rattle.cases.proofs.slice.numbers.Tie as tie
 
 abbrev Inv-loop : tie.InvT-loop
-Inv-loop bytes place n out₀ next₀ i₀ out next i = length out ≡ length out₀
+Inv-loop numbers out₀ i₀ out i = length out ≡ length out₀
 
 abbrev μ-loop : tie.MeasureT-loop
-μ-loop bytes place n out₀ next₀ i₀ out next i = n - i
+μ-loop numbers out₀ i₀ out i = length numbers - i
 
 loop-holds : tie.Need-loop-holds Inv-loop μ-loop
 loop-holds c = search needs
 
-same-length : tie.Need-same-length Inv-loop μ-loop
-same-length c = search needs
+mul-signed : tie.Need-mul-signed Inv-loop μ-loop
+mul-signed c = search needs
 
-returns : tie.Need-returns Inv-loop μ-loop
-returns c = search needs
-
-unsigned-requires : tie.Need-unsigned-requires Inv-loop μ-loop
-unsigned-requires c κs = search needs
+shared-slice-read-signed : tie.Need-shared-slice-read-signed Inv-loop μ-loop
+shared-slice-read-signed c = search needs
 
 signed-requires : tie.Need-signed-requires Inv-loop μ-loop
 signed-requires c κs = search needs
 
-mul-t9 : tie.Need-mul-t9 Inv-loop μ-loop
-mul-t9 c = search needs
+mul-t11 : tie.Need-mul-t11 Inv-loop μ-loop
+mul-t11 c = search needs
 
 slice-set-from-out : tie.Need-slice-set-from-out Inv-loop μ-loop
 slice-set-from-out c = search needs
@@ -41,6 +38,12 @@ loop-less c = search needs
 
 loop-again : tie.Need-loop-again Inv-loop μ-loop
 loop-again c = search needs
+
+same-length : tie.Need-same-length Inv-loop μ-loop
+same-length c = search needs
+
+returns : tie.Need-returns Inv-loop μ-loop
+returns c = search needs
 
 same-length-2 : tie.Need-same-length-2 Inv-loop μ-loop
 same-length-2 c = search needs
@@ -55,14 +58,15 @@ numbers-spec =
     Inv-loop
     μ-loop
     loop-holds
-    same-length
-    returns
-    unsigned-requires
+    mul-signed
+    shared-slice-read-signed
     signed-requires
-    mul-t9
+    mul-t11
     slice-set-from-out
     add-i
     loop-less
     loop-again
+    same-length
+    returns
     same-length-2
     returns-2)

@@ -1,4 +1,5 @@
-//! Writes the fixed list into the folder of the crates that replay it and prints its counts.
+//! Writes the fixed list into the folder of the crates, where the program that replays it reads it, and prints its
+//! counts.
 
 use std::path::PathBuf;
 
@@ -7,13 +8,8 @@ fn main() -> std::io::Result<()> {
         eprintln!("usage: list FOLDER");
         std::process::exit(2);
     };
-    let folder = PathBuf::from(folder);
     let list = oracle::list::make();
-    for (name, file) in list.files() {
-        let path = folder.join(oracle::list::path(name));
-        std::fs::create_dir_all(path.parent().unwrap())?;
-        std::fs::write(path, &file.bytes)?;
-    }
+    std::fs::write(PathBuf::from(folder).join(oracle::list::PATH), &list.bytes)?;
     print!("{}", list.counts());
     Ok(())
 }

@@ -1,5 +1,7 @@
 //! The numbers of a case as bytes.
 
+use crate::Lent;
+
 /// Writes numbers one after the other.
 #[derive(Debug, Default, Clone)]
 pub struct Bytes(pub Vec<u8>);
@@ -37,5 +39,12 @@ impl Bytes {
     pub fn lengths(&mut self, lengths: &[usize]) {
         self.unsigned(lengths.len() as u64);
         lengths.iter().for_each(|&l| self.unsigned(l as u64));
+    }
+
+    /// A table: prod0, k, a count and then each number of its rows.
+    pub fn lent(&mut self, table: Lent) {
+        self.signed(table.prod0);
+        self.unsigned(table.k as u64);
+        self.many_signed(table.rows);
     }
 }
