@@ -56,12 +56,17 @@ fn is_refused(expected: &[usize], refusal: Refusal) -> bool {
             let numbers = [8, first.0 as usize, second.0 as usize];
             slice::is_same(expected, &numbers)
         }
-        _ => is_number(expected, refusal.number()),
+        _ => {
+            let numbers = [refusal.number()];
+            slice::is_same(expected, &numbers)
+        }
     }
 }
 
-// A refusal's number and nothing behind it.
-pub fn is_number(expected: &[usize], number: usize) -> bool {
-    let numbers = [number];
-    slice::is_same(expected, &numbers)
+// What was said in numbers, a refusal's number or 0 first, compared with the rest of a case.
+pub fn outcome(expected: &[usize], said: &[usize]) -> Outcome {
+    Outcome {
+        number: slice::at(said, 0),
+        right: slice::is_same(expected, said),
+    }
 }

@@ -1,6 +1,8 @@
 // The cases of explain.
+use cases::answer;
 use cases::slice;
 use cases::tally::Outcome;
+use explain::Part;
 use paper::Explanation;
 
 // The three calls of one table.
@@ -18,24 +20,25 @@ pub fn asked(case: &[usize], rows: &mut [i32], tokens: &mut [u16]) -> Outcome {
 
 // The count, the place of the stretch and the stretch itself.
 fn called(expected: &[usize], prod0: i32, k: usize, rows: &[i32], tokens: &[u16]) -> Outcome {
-    let part = explain::stretch(prod0, k, rows, tokens);
     let lies = explain::place(prod0, k, rows, tokens);
-    let is_part = part.len() == lies.count && slice::is_part(part, rows, lies.start);
-    let matched = explain::matched(prod0, k, rows, tokens);
-    match matched {
+    if !is_stretch(explain::stretch(prod0, k, rows, tokens), rows, lies) {
+        return Outcome {
+            number: 0,
+            right: false,
+        };
+    }
+    match explain::matched(prod0, k, rows, tokens) {
         Explanation::Matched(count) => {
             let numbers = [0, count, lies.start, lies.count];
-            Outcome {
-                number: 0,
-                right: is_part && slice::is_same(expected, &numbers),
-            }
+            answer::outcome(expected, &numbers)
         }
         Explanation::Refused(refusal) => {
             let numbers = [refusal.number(), lies.start, lies.count];
-            Outcome {
-                number: refusal.number(),
-                right: is_part && slice::is_same(expected, &numbers),
-            }
+            answer::outcome(expected, &numbers)
         }
     }
+}
+
+fn is_stretch(part: &[i32], rows: &[i32], lies: Part) -> bool {
+    part.len() == lies.count && slice::is_part(part, rows, lies.start)
 }

@@ -20,29 +20,31 @@ const RIGHT: usize = 86;
 fn main() {
     let mut bytes = [0u8; 131072];
     let mut numbers = [0usize; 131072];
-    let mut a = [0i32; 20000];
-    let mut b = [0i32; 20000];
+    let mut rows = [0i32; 20000];
     let mut tokens = [0u16; 20000];
     let mut out = [0i32; 20000];
     let mut counts = [0usize; 87];
     replay(
         &mut bytes,
         &mut numbers,
-        &mut a,
-        &mut b,
+        &mut rows,
         &mut tokens,
         &mut out,
         &mut counts,
     );
-    report(b"build\n", &counts, 0);
-    report(b"unite\n", &counts, 17);
-    report(b"shrink\n", &counts, 34);
-    report(b"predict\n", &counts, 51);
-    report(b"explain\n", &counts, 68);
+    report(&counts);
 }
 
-// The lines of one call.
-fn report(name: &[u8], counts: &[usize], start: usize) {
+// The counts of each call.
+fn report(counts: &[usize]) {
+    of_call(b"build\n", counts, 0);
+    of_call(b"unite\n", counts, 17);
+    of_call(b"shrink\n", counts, 34);
+    of_call(b"predict\n", counts, 51);
+    of_call(b"explain\n", counts, 68);
+}
+
+fn of_call(name: &[u8], counts: &[usize], start: usize) {
     io::write_all(STDOUT_FILENO, name);
     tally::report(slice::after(counts, start));
 }
@@ -51,14 +53,13 @@ fn report(name: &[u8], counts: &[usize], start: usize) {
 fn replay(
     bytes: &mut [u8],
     numbers: &mut [usize],
-    a: &mut [i32],
-    b: &mut [i32],
+    rows: &mut [i32],
     tokens: &mut [u16],
     out: &mut [i32],
     counts: &mut [usize],
 ) {
     let mut turns: usize = 1000000;
-    while turns > 0 && one(bytes, numbers, a, b, tokens, out, counts) {
+    while turns > 0 && one(bytes, numbers, rows, tokens, out, counts) {
         turns -= 1;
     }
 }
@@ -67,8 +68,7 @@ fn replay(
 fn one(
     bytes: &mut [u8],
     numbers: &mut [usize],
-    a: &mut [i32],
-    b: &mut [i32],
+    rows: &mut [i32],
     tokens: &mut [u16],
     out: &mut [i32],
     counts: &mut [usize],
@@ -81,37 +81,36 @@ fn one(
     let first = number::read(bytes, numbers);
     let case = slice::after(numbers, first);
     let call = slice::at(case, 0);
-    if call < 5 {
-        let outcome = asked(call, slice::after(case, 2), a, b, tokens, out);
-        count(counts, call * 17, outcome);
-    } else {
+    if 4 < call {
         named(bytes, slice::at(case, 1), slice::at(counts, RIGHT));
+        return true;
     }
+    count(counts, call * 17, asked(call, case, rows, tokens, out));
     true
 }
 
-// A case behind its call and its source.
+// A case, which stands behind its call and its source.
 fn asked(
     call: usize,
-    case: &[usize],
-    a: &mut [i32],
-    b: &mut [i32],
+    whole: &[usize],
+    rows: &mut [i32],
     tokens: &mut [u16],
     out: &mut [i32],
 ) -> Outcome {
+    let case = slice::after(whole, 2);
     if call == 0 {
         return builds::asked(case, tokens, out);
     }
     if call == 1 {
-        return unites::asked(case, a, b, out);
+        return unites::asked(case, rows, out);
     }
     if call == 2 {
-        return shrinks::asked(case, a, out);
+        return shrinks::asked(case, rows, out);
     }
     if call == 3 {
-        return predicts::asked(case, a, tokens);
+        return predicts::asked(case, rows, tokens);
     }
-    explains::asked(case, a, tokens)
+    explains::asked(case, rows, tokens)
 }
 
 // Counts a case of the call whose counts start there.

@@ -29,14 +29,11 @@ fn compared(expected: &[usize], prediction: Prediction) -> Outcome {
             entered,
         } => {
             let numbers = [0, production.0 as usize, entered];
-            Outcome {
-                number: 0,
-                right: slice::is_same(expected, &numbers),
-            }
+            answer::outcome(expected, &numbers)
         }
-        Prediction::Refused(refusal) => Outcome {
-            number: refusal.number(),
-            right: answer::is_number(expected, refusal.number()),
-        },
+        Prediction::Refused(refusal) => {
+            let numbers = [refusal.number()];
+            answer::outcome(expected, &numbers)
+        }
     }
 }

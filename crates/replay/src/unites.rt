@@ -4,20 +4,21 @@ use cases::slice;
 use cases::tally::Outcome;
 
 // The call, with as much of the output as the case says.
-pub fn asked(case: &[usize], a: &mut [i32], b: &mut [i32], out: &mut [i32]) -> Outcome {
+pub fn asked(case: &[usize], rows: &mut [i32], out: &mut [i32]) -> Outcome {
+    let mut others = [0i32; 20000];
     let mode = answer::mode(slice::at(case, 0));
-    let first = slice::table(case, 1, a);
-    let second = slice::table(case, first.next, b);
+    let first = slice::table(case, 1, rows);
+    let second = slice::table(case, first.next, &mut others);
     let rest = slice::after(case, second.next);
     let room = slice::lent(rest, out);
     let making = unite::unite(
         mode,
         first.prod0,
         first.k,
-        slice::front_numbers(a, first.count),
+        slice::front_numbers(rows, first.count),
         second.prod0,
         second.k,
-        slice::front_numbers(b, second.count),
+        slice::front_numbers(&others, second.count),
         &mut out[..room],
     );
     answer::compared(rest, making, out)

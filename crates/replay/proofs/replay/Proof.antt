@@ -6,12 +6,12 @@ use Rattle.replay.proofs.replay.Statement.{statement}
 use Rattle.replay.proofs.replay.Tie as tie
 
 abbrev Inv-loop : tie.InvT-loop
-Inv-loop bytes₀ numbers₀ a₀ b₀ tokens₀ out₀ counts₀ turns₀ bytes numbers a b tokens out counts turns =
-    (length bytes ≡ length bytes₀) × (length numbers ≡ length numbers₀) × (length a ≡ length a₀) × (length b ≡ length b₀)
+Inv-loop bytes₀ numbers₀ rows₀ tokens₀ out₀ counts₀ turns₀ bytes numbers rows tokens out counts turns =
+    (length bytes ≡ length bytes₀) × (length numbers ≡ length numbers₀) × (length rows ≡ length rows₀)
     × (length tokens ≡ length tokens₀) × (length out ≡ length out₀) × (length counts ≡ length counts₀)
 
 abbrev μ-loop : tie.MeasureT-loop
-μ-loop bytes₀ numbers₀ a₀ b₀ tokens₀ out₀ counts₀ turns₀ bytes numbers a b tokens out counts turns =
+μ-loop bytes₀ numbers₀ rows₀ tokens₀ out₀ counts₀ turns₀ bytes numbers rows tokens out counts turns =
     turns
 
 loop-holds : tie.Need-loop-holds Inv-loop μ-loop
@@ -47,11 +47,11 @@ same-length-5 c = search needs
 same-length-6 : tie.Need-same-length-6 Inv-loop μ-loop
 same-length-6 c = search needs
 
-same-length-7 : tie.Need-same-length-7 Inv-loop μ-loop
-same-length-7 c = search needs
-
 returns : tie.Need-returns Inv-loop μ-loop
 returns c = search needs
+
+same-length-7 : tie.Need-same-length-7 Inv-loop μ-loop
+same-length-7 c = search needs
 
 same-length-8 : tie.Need-same-length-8 Inv-loop μ-loop
 same-length-8 c = search needs
@@ -67,12 +67,6 @@ same-length-11 c = search needs
 
 same-length-12 : tie.Need-same-length-12 Inv-loop μ-loop
 same-length-12 c = search needs
-
-same-length-13 : tie.Need-same-length-13 Inv-loop μ-loop
-same-length-13 c = search needs
-
-same-length-14 : tie.Need-same-length-14 Inv-loop μ-loop
-same-length-14 c = search needs
 
 returns-2 : tie.Need-returns-2 Inv-loop μ-loop
 returns-2 c = search needs
@@ -94,13 +88,11 @@ replay-spec =
     same-length-4
     same-length-5
     same-length-6
-    same-length-7
     returns
+    same-length-7
     same-length-8
     same-length-9
     same-length-10
     same-length-11
     same-length-12
-    same-length-13
-    same-length-14
     returns-2)

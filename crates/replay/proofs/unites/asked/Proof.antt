@@ -1,4 +1,4 @@
--- `asked` is safe: the slices stay as long. Assumes nothing.
+-- `asked` is safe: the slices stay as long, the first of them by a fact of some calls before. Assumes nothing.
 use borrow.Author.Needs.{needs}
 use Rattle.replay.proofs.unites.asked.Statement.{statement}
 use Rattle.replay.proofs.unites.asked.Tie as tie
@@ -12,6 +12,9 @@ mode-requires c κs = search needs
 table-requires : tie.Need-table-requires
 table-requires c κs = search needs
 
+slice-aggregate-table : tie.Need-slice-aggregate-table
+slice-aggregate-table c = search needs
+
 table-requires-2 : tie.Need-table-requires-2
 table-requires-2 c κs = search needs
 
@@ -23,6 +26,9 @@ lent-requires c κs = search needs
 
 front-numbers-requires : tie.Need-front-numbers-requires
 front-numbers-requires c κs = search needs
+
+slice-aggregate-front-numbers : tie.Need-slice-aggregate-front-numbers
+slice-aggregate-front-numbers c = search needs
 
 front-numbers-requires-2 : tie.Need-front-numbers-requires-2
 front-numbers-requires-2 c κs = search needs
@@ -47,9 +53,6 @@ same-length c =
 same-length-2 : tie.Need-same-length-2
 same-length-2 c = search needs
 
-same-length-3 : tie.Need-same-length-3
-same-length-3 c = search needs
-
 returns : tie.Need-returns
 returns c = search needs
 
@@ -60,10 +63,12 @@ asked-spec =
     at-requires
     mode-requires
     table-requires
+    slice-aggregate-table
     table-requires-2
     after-requires
     lent-requires
     front-numbers-requires
+    slice-aggregate-front-numbers
     front-numbers-requires-2
     slice-relend-prefix-unite
     slice-aggregate-unite
@@ -71,5 +76,4 @@ asked-spec =
     compared-requires
     same-length
     same-length-2
-    same-length-3
     returns)
