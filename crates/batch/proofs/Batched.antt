@@ -1,5 +1,5 @@
 -- What batch answers, check by check. Assumes nothing.
-use mathlib.Core.Path.{_≡_, refl, sym, ap, _∙_}
+use mathlib.Core.Path.{_≡_, refl, sym, ap, subst, _∙_}
 use mathlib.Core.Bool.{true, false, _||_}
 use mathlib.Core.List.{List, [], _∷_, _++_}
 use Prim.Native.Nat.{ℕ, zero, suc, _<_, _≤_}
@@ -9,17 +9,18 @@ use lib.ListN.{length, take, drop}
 use lib.IntN.{ℤ}
 use Rattle.paper.specs.declared.Mode.{Mode}
 use Rattle.paper.specs.declared.Refusal.{Refusal}
-use Rattle.paper.specs.declared.Writing.the-variants.{Wrote, Refused}
+use Rattle.paper.specs.declared.Writing.the-variants.{Wrote}
 use Rattle.paper.specs.Rows.{Table, table}
 use Rattle.paper.specs.Answers.{Ruling, accept, refuse, number, detail, Chosen, Writes}
 use Rattle.paper.specs.Checks.{first, row-slice, plain}
 use Rattle.paper.specs.Predict.{predict}
+use Rattle.laws.proofs.Writing as writing
 use Rattle.rows.specs.Verdicts.{Judges, follow}
 use Rattle.rows.specs.declared.verdict.Verdict.{Verdict}
 use Rattle.rows.specs.declared.verdict.Verdict.the-variants as verdict
 use Rattle.rows.specs.declared.verdict.Verdict.the-variants.{Pass}
 use Rattle.rows.proofs.Judged.{judged}
-use Rattle.predict.specs.Seen.{checked}
+use Rattle.predict.specs.Checked.{checked}
 use Rattle.predict.proofs.Parts.{after-checks}
 use Rattle.paper.specs.Batch.{answered, each-window, window-lengths, batch}
 
@@ -35,11 +36,6 @@ agreeing : (f g : List ℕ → Ruling Chosen) → ((w : List ℕ) → f w ≡ g 
 unfolding each-window
 agreeing f g e k zero ts = refl
 agreeing f g e k (suc n) ts = rw (e (take k ts), agreeing f g e k n (drop k ts))
-
--- a refusal, and what was written
-module _ {ruling : Ruling (List ℤ)} {old : List ℤ} where
-  pub refused : (r : Refusal) → ruling ≡ refuse (number r) (detail r) → Writes ruling (Refused r) old old
-  refused r e = record { says = rw e; holds = rw e }
 
 module _ (mode : Mode) (p : ℤ) (k : ℕ) (ns : List ℤ) (stream count : ℕ) (ts : List ℕ) (room : ℕ) where
   pub refused-slice : row-slice ns ≡ true → batch mode p k ns stream count ts room ≡ refuse 1 []
@@ -80,5 +76,7 @@ module _ (mode : Mode) (p : ℤ) (k : ℕ) (ns : List ℤ) (stream count : ℕ) 
             → new ≡ each-window (checked mode (table p k ns) stream) k count ts ++ drop count old
             → Writes (batch mode p k ns stream count ts room) (Wrote count) old new
         written old new h e =
+            let t = each-window (checked mode (table p k ns) stream) k count ts in
             let n = answers-count (checked mode (table p k ns) stream) k count ts in
-            record { says = rw (accepted h, n) refl; holds = rw (accepted h, n) e }
+            subst (λ (c : ℕ). Writes (batch mode p k ns stream count ts room) (Wrote c) old new) n
+            (writing.written (accepted h) (e ∙ ap (λ (c : ℕ). t ++ drop c old) (sym n)))

@@ -1,4 +1,4 @@
--- (see the files named below)
+-- Theorems about lists, rows, tests, productions and what a call writes.
 pub mod Tests
 pub mod Every
 pub mod Members
@@ -7,3 +7,4 @@ pub mod RowsRise
 pub mod Find
 pub mod RowNumbers
 pub mod Cut
+pub mod Writing

@@ -12,12 +12,12 @@ use mir.Syntax.{w32}
 use mir.Val.{SFits, toZ, ofZ}
 use mir.Facts.{toZ-ofZ}
 use Rattle.paper.specs.Rows.{table, rows-in, accepting, signed}
-use Rattle.paper.specs.Answers.{Ruling, accept, refuse, Writes, number, detail}
+use Rattle.paper.specs.Answers.{Ruling, accept, refuse, Writes}
 use Rattle.paper.specs.Checks.{every, row-fits, row-slice, production-fits, range, order}
 use Rattle.paper.specs.Text.{text, text-out, write, head-form}
-use Rattle.paper.specs.declared.Refusal.{Refusal}
-use Rattle.paper.specs.declared.Writing.the-variants.{Wrote, Refused}
+use Rattle.paper.specs.declared.Writing.the-variants.{Wrote}
 use Rattle.laws.proofs.Every.{neither}
+use Rattle.laws.proofs.Writing as writing
 use Rattle.rows.specs.Places.{Reads, code, uncoded, bare}
 use Rattle.rows.proofs.Rest.{both}
 use Rattle.rows.proofs.Fits.{code-fits}
@@ -27,17 +27,11 @@ use Rattle.text_laws.proofs.Put.{put-front}
 use Rattle.rows.proofs.Codes.{uncoded-code}
 use Rattle.text_laws.proofs.Kept.{production-kept, lines-kept}
 
--- a refusal, and what was written
-module _ {ruling : Ruling (List ℕ)} {old : List ℕ} where
-  pub refused : (r : Refusal) → ruling ≡ refuse (number r) (detail r) → Writes ruling (Refused r) old old
-  refused r e = record { says = rw e; holds = rw e }
-
-  pub written : {t new : List ℕ} {n room : ℕ} → ruling ≡ accept t → Puts old 0 room t new n →
-      Writes ruling (Wrote n) old new
-  written {t} {new} {n} e p = record {
-    says = let m : n ≡ length t = omega (arith, p .place) in rw (e, m);
-    holds = rw e (p .holds ∙ put-front old t);
-  }
+-- what was put at the front was written
+pub written : {ruling : Ruling (List ℕ)} {old t new : List ℕ} {n room : ℕ} → ruling ≡ accept t
+    → Puts old 0 room t new n → Writes ruling (Wrote n) old new
+written {old = old} {t = t} {n = n} e p =
+    let m : n ≡ length t = omega (arith, p .place) in rw m (writing.written e (p .holds ∙ put-front old t))
 
 module _ (p : ℤ) (k : ℕ) (ns : List ℤ) (room : ℕ) where
   pub out-slice : row-slice ns ≡ true → text-out p k ns room ≡ refuse 1 []

@@ -6,9 +6,9 @@ use Rattle.paper.specs.Checks.{row-slice, plain}
 use Rattle.paper.specs.declared.Refusal.the-variants as refusal
 use Rattle.rows.proofs.Signed.{same}
 use Rattle.paper.specs.Batch.{window-lengths}
+use Rattle.laws.proofs.Writing.{refused}
 use Rattle.batch.proofs.Counts.{lengths-passed}
 use Rattle.batch.proofs.Batched.{
-  refused,
   refused-slice,
   refused-lengths,
   refused-table,

@@ -4,10 +4,10 @@ use mathlib.Core.Path.{sym, _∙_}
 use native.Mathlib.Omega.{arith}
 use borrow.Author.Needs.{needs}
 use Rattle.paper.specs.declared.Refusal.the-variants.{Length, Range, Order}
+use Rattle.laws.proofs.Writing.{refused}
 use Rattle.text_out.proofs.Out.{
   range-by,
   code-by,
-  refused,
   written,
   out-slice,
   out-room,
