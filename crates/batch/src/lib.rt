@@ -12,7 +12,7 @@ ghost use lib.ListN.{length, take, drop};
 ghost use lib.Dec.{eqb};
 ghost use Rattle.paper.specs.Rows.{table};
 ghost use Rattle.paper.specs.Answers.{predicted, number, Writes};
-ghost use Rattle.predict.specs.Seen.{Sound, checked};
+ghost use Rattle.predict.specs.Checked.{Sound, checked};
 ghost use Rattle.paper.specs.Batch.{minus, answered, each-window, window-lengths, batch};
 
 // A refusal's number, below 0.

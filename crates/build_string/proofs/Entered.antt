@@ -10,7 +10,7 @@ use lib.ListN.{length}
 use lib.IntN.{ℤ}
 use Rattle.paper.specs.Rows.{Row, find}
 use Rattle.paper.specs.Build.{Standing, insert, enter}
-use Rattle.rows.proofs.Bracket.{fit-at}
+use Rattle.rows.proofs.Passing.{fit-at}
 use Rattle.trees.proofs.Find.{length-insert}
 use Rattle.grow_laws.specs.Held.{held, row-held, Laid, Missed, Adding, next, Added}
 use Rattle.grow_laws.proofs.Written.{held-numbers, held-length}

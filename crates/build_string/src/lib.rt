@@ -2,7 +2,7 @@
 use paper::Production;
 use paper::State;
 use paper::Terminal;
-use rows::search::Found;
+use search::Found;
 ghost use Prim.Native.Nat.{_≤_};
 ghost use Rattle.grow_laws.specs.Held.{view, held, Laid, Missed};
 ghost use Rattle.trees.proofs.Tree.{Tree};

@@ -26,7 +26,7 @@ use Rattle.paper.specs.Explain.{
 use denote.Ref.{RefT}
 use Rattle.explain.specs.declared.Part.{Part}
 use Rattle.explain.specs.Stopped.{Lies}
-use Rattle.rows.specs.Search.{Leaves}
+use Rattle.search.specs.Search.{Leaves}
 use Rattle.rows.specs.Verdicts.{Judges, follow}
 use Rattle.rows.specs.declared.verdict.Verdict.{Verdict}
 use Rattle.rows.specs.declared.verdict.Verdict.the-variants.{Pass, Refused}

@@ -3,8 +3,8 @@ use paper::Explanation;
 use paper::Refusal;
 use paper::State;
 use rows::numbers;
-use rows::search::Found;
 use rows::verdict::Verdict;
+use search::Found;
 ghost use mathlib.Core.Path.{_≡_};
 ghost use mathlib.Core.Bool.{false};
 ghost use Prim.Native.Nat.{_+_, _-_, _*_, _/_, _<_, _≤_};
@@ -12,7 +12,7 @@ ghost use lib.ListN.{length};
 ghost use Rattle.paper.specs.Rows.{rows-in};
 ghost use Rattle.paper.specs.Answers.{explained};
 ghost use Rattle.paper.specs.Explain.{stop, left-rows, matched-count, stretch, PartOf};
-ghost use Rattle.rows.specs.Search.{Passed};
+ghost use Rattle.rows.specs.Passed.{Passed};
 ghost use Rattle.explain.specs.Stopped.{stopped, Lies};
 
 // Where the walk stopped: the state, the count of matched tokens, and whether a token was left over.
@@ -30,7 +30,7 @@ pub fn walked(rows: &[i32], tokens: &[u16]) -> Stop
     let mut state = 0;
     let mut i = 0;
     while i < tokens.len() {
-        let found = rows::search::find(rows, state as usize, wide(tokens[i]));
+        let found = search::find(rows, state as usize, wide(tokens[i]));
         let Found::At(row) = found else {
             return Stop {
                 state: State(state),
@@ -87,7 +87,7 @@ fn left_rows(rows: &[i32], s: Stop) -> Part
         return Part { start: n, count: 0 };
     }
     let state = s.state;
-    let span = rows::search::leaving(rows, state.0 as usize);
+    let span = search::leaving(rows, state.0 as usize);
     if span.count == 0 {
         return Part { start: n, count: 0 };
     }

@@ -19,8 +19,8 @@ use Rattle.paper.specs.Checks.{every, row-fits, production-fits, before, rising
 use Rattle.paper.specs.Build.{insert}
 use Rattle.rows.specs.Places.{row-at, key, uncoded}
 use Rattle.rows.proofs.Keys.{before-key, compared}
-use Rattle.rows.proofs.Bracket.{fit-at}
-use Rattle.rows.proofs.Found.{found}
+use Rattle.rows.proofs.Passing.{fit-at}
+use Rattle.search.proofs.Finding.{found}
 use Rattle.trees.proofs.Find.{In}
 use Rattle.trees.proofs.Rising.{true-rising, rising-true, rising-insert, in-insert}
 use Rattle.grow_laws.specs.Moves.{put-in, Inserted}

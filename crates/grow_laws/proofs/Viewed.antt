@@ -11,10 +11,10 @@ use lib.IntN.{ℤ, pos}
 use Rattle.paper.specs.Rows.{Row, natural, accepting}
 use Rattle.rows.proofs.Codes.{uncoded-code}
 use Rattle.rows.specs.Places.{row-at, code, uncoded}
-use Rattle.rows.specs.Search.{Finds}
-use Rattle.rows.specs.declared.search.Found.{Found}
-use Rattle.rows.specs.declared.search.Found.the-variants.{At, Missing}
-use Rattle.rows.proofs.Bracket.{fit-at}
+use Rattle.search.specs.Search.{Finds}
+use Rattle.search.specs.declared.Found.{Found}
+use Rattle.search.specs.declared.Found.the-variants.{At, Missing}
+use Rattle.rows.proofs.Passing.{fit-at}
 use Rattle.grow_laws.specs.Moves.{opened, inserted, put-in, Inserted, Slid}
 use Rattle.grow_laws.specs.Held.{view, row-held, Laid, Seeks, Coded}
 use Rattle.grow_laws.proofs.Shifted.{slid-rows}

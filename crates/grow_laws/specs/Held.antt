@@ -8,9 +8,10 @@ use lib.IntN.{ℤ}
 use Rattle.paper.specs.Rows.{Row, Table, rows-in, find}
 use Rattle.paper.specs.Build.{insert}
 use Rattle.rows.specs.Places.{row-at, uncoded}
-use Rattle.rows.specs.Search.{Passed, Lower}
-use Rattle.rows.specs.declared.search.Found.{Found}
-use Rattle.rows.specs.declared.search.Found.the-variants.{At, Missing}
+use Rattle.rows.specs.Passed.{Passed}
+use Rattle.search.specs.Search.{Lower}
+use Rattle.search.specs.declared.Found.{Found}
+use Rattle.search.specs.declared.Found.the-variants.{At, Missing}
 use Rattle.trees.proofs.Paint.{paint}
 use Rattle.trees.proofs.Tree.{Tree}
 

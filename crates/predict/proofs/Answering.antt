@@ -10,9 +10,9 @@ use Rattle.paper.specs.declared.Mode.the-variants.{Archive, Intake}
 use Rattle.paper.specs.Answers.{Ruling, accept, refuse, Chosen}
 use Rattle.paper.specs.Predict.{fallback, answer}
 use Rattle.rows.specs.Places.{code}
-use Rattle.predict.specs.declared.Reached.{Reached}
-use Rattle.predict.specs.declared.Reached.the-variants.{Nothing, Accepting}
-use Rattle.predict.specs.Seen.{reached}
+use Rattle.walk.specs.declared.Reached.{Reached}
+use Rattle.walk.specs.declared.Reached.the-variants.{Nothing, Accepting}
+use Rattle.walk.specs.Seen.{reached}
 
 abbrev pub by : ℕ → ℕ → Ruling Chosen
 by q n = accept (record { production = q; entered = n })

@@ -17,7 +17,7 @@ use Rattle.rows.specs.Verdicts.{Judges, follow}
 use Rattle.rows.specs.declared.verdict.Verdict.{Verdict}
 use Rattle.rows.specs.declared.verdict.Verdict.the-variants.{Pass, Refused}
 use Rattle.rows.proofs.Judged.{judged}
-use Rattle.predict.specs.Seen.{checked}
+use Rattle.predict.specs.Checked.{checked}
 
 module _ (mode : Mode) (p : ℤ) (k : ℕ) (ns : List ℤ) (stream : ℕ) (ts : List ℕ) where
   pub refused-length : row-slice ns ≡ true → refuse 1 [] ≡ predict mode p k ns stream ts

@@ -18,7 +18,7 @@ use Rattle.paper.specs.Shrink.{shrunk, shrink-table, shrink}
 use Rattle.paper.specs.Tabrep.{lines-of, line}
 use Rattle.rows.proofs.Rest.{length-rows}
 use Rattle.rows.proofs.Judged.{rows-fit}
-use Rattle.ruled.specs.Into.{Fitting}
+use Rattle.counts.specs.Arrays.{Fitting}
 use Rattle.merging.proofs.States.{states-length}
 use Rattle.merging.proofs.Promises.{shrunk-rows-le, shrunk-states-le}
 use Rattle.shrink.proofs.Parts.{slice-few}

@@ -34,7 +34,7 @@ fn with_intake(
             rows: count,
             states,
         } => {
-            let all = ruled::counts::state_count(rows);
+            let all = counts::state_count(rows);
             report_lines::put_lines(
                 out,
                 Sizes {

@@ -1,5 +1,4 @@
--- A count of the rows that pass a test, in rows of which the first pass it or the last fail it;
--- so where the rows of a state begin and how many they are.
+-- A count of the rows that pass a test, in rows of which those from one to another pass it.
 -- Assumes nothing.
 use mathlib.Core.Path.{_≡_, refl, sym, ap, _∙_}
 use mathlib.Core.Bool.{Bool, true, false, cond}
@@ -7,16 +6,11 @@ use mathlib.Core.List.{List, [], _∷_}
 use Prim.Native.Nat.{ℕ, zero, suc, _+_, _-_, _*_, _/_, _≤_, _<_}
 use native.Mathlib.Omega.{arith}
 use native.Mathlib.Numerals.{add-one}
-use borrow.Author.Tests.{lt-ltb, le-ltb, eq-eqb, ne-eqb}
-use lib.Dec.{eqb, ltb}
 use lib.ListN.{length}
 use lib.IntN.{ℤ}
-use Rattle.paper.specs.Rows.{Row, rows-in, begin, leaving}
-use Rattle.paper.specs.Checks.{row-fits}
-use Rattle.rows.specs.Places.{row-at, rest, key}
-use Rattle.rows.specs.Search.{Passed, Lower, Leaves}
-use Rattle.rows.proofs.Rest.{rest-cons, rest-end, every-at}
-use Rattle.rows.proofs.Fits.{fit}
+use Rattle.paper.specs.Rows.{Row, rows-in}
+use Rattle.rows.specs.Places.{row-at, rest}
+use Rattle.rows.proofs.Rest.{rest-cons, rest-end}
 
 -- g counts the rows that pass f
 pub record Counts (f : Row → Bool) (g : List Row → ℕ) : Type 0 where
@@ -73,45 +67,3 @@ module _ {f : Row → Bool} {g : List Row → ℕ} (c : Counts f g) (ns : List �
       let u : 0 + a ≡ a = omega arith in
       let m : g (rest ns 0) ≡ g (rest ns (0 + a)) = none-count a 0 (omega arith) (λ j w v. x j (omega arith)) in
       omega (arith, m, q, r, ap (λ (v : ℕ). g (rest ns v)) u)
-
-sub-zero : (a : ℕ) → a - 0 ≡ a
-sub-zero a = omega arith
-
-begin-counts : (s : ℕ) → Counts (λ r. ltb (r .from) s) (λ rs. begin rs s)
-unfolding begin
-begin-counts s = record { zero-rows = refl; one-row = λ r rs. refl }
-
-leaving-counts : (s : ℕ) → Counts (λ r. eqb (r .from) s) (λ rs. leaving rs s)
-unfolding leaving
-leaving-counts s = record { zero-rows = refl; one-row = λ r rs. refl }
-
-module _ (ns : List ℤ) (s a b : ℕ) (p : Passed ns) (l : Lower ns (s * 65536) a) (h : Lower ns ((s + 1) * 65536) b) where
-  terminal-at : (j : ℕ) → j < length ns / 4 → row-at ns j .terminal ≤ 65535
-  terminal-at j m = fit (row-at ns j) (every-at row-fits ns j (p .fits) (omega arith)) .terminal
-
-  in-order : a ≤ b
-  in-order = le-of (λ (q : b < a). omega (arith, l .below b q, h .above b (omega arith) (omega (arith, l .within))))
-    where
-      le-of : (b < a → ⊥) → a ≤ b
-      le-of n = omega (arith, n)
-
-  begun : begin (rows-in ns) s ≡ a - 0
-  begun = count-between (begin-counts s) ns 0 a (omega arith) (l .within)
-      (λ j w. absurd (omega arith))
-      (λ j w v. lt-ltb (row-at ns j .from) s (omega (arith, l .below j v)))
-      (λ j w v. le-ltb (row-at ns j .from) s (omega (arith, l .above j w v, terminal-at j v)))
-
-  -- the rows from the first key of the state to the first key of the next
-  pub leaves : Leaves ns s a (b - a)
-  leaves = record {
-    begins = sym (begun ∙ sub-zero a);
-    counts = sym (count-between (leaving-counts s) ns a b in-order (h .within)
-        (λ j w. ne-eqb _ _ (λ (e : row-at ns j .from ≡ s). omega (arith, l .below j w)))
-        (λ j w v. let m : j < length ns / 4 = omega (arith, h .within) in
-        eq-eqb (row-at ns j .from) s (omega (arith, l .above j w m, h .below j v, terminal-at j m)))
-        (λ j w v. ne-eqb _ _ (λ (e : row-at ns j .from ≡ s). omega (arith, h .above j w v, terminal-at j v))));
-    within = omega (arith, in-order, h .within);
-  }
-
-  pub leaves-order : a ≤ b
-  leaves-order = in-order

@@ -15,7 +15,7 @@ use Rattle.paper.specs.Rows.{Table, rows-in, table}
 use Rattle.paper.specs.declared.Refusal.{Refusal}
 use Rattle.paper.specs.Answers.{Ruling, accept, refuse, then, number, detail}
 use Rattle.paper.specs.Checks.{first, every, row-fits, rising, production-fits, range, order, plain}
-use Rattle.rows.specs.Search.{Passed}
+use Rattle.rows.specs.Passed.{Passed}
 use Rattle.rows.specs.Verdicts.{follow, Judges}
 use Rattle.rows.specs.declared.verdict.Verdict.{Verdict}
 use Rattle.rows.specs.declared.verdict.Verdict.the-variants.{Pass, Refused}

@@ -3,7 +3,6 @@ pub mod Codes
 pub mod Rest
 pub mod Fits
 pub mod Keys
-pub mod Bracket
-pub mod Found
+pub mod Passing
 pub mod Counted
 pub mod Judged

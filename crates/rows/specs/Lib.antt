@@ -1,3 +1,3 @@
 pub mod Places
-pub mod Search
+pub mod Passed
 pub mod Verdicts

@@ -1,5 +1,4 @@
-// Document 01, module 1: the checks, the rows of a state, state counts.
+// Document 01, module 1: the numbers of a table, the checks 1 to 4.
 pub mod checks;
 pub mod numbers;
-pub mod search;
 pub mod verdict;

@@ -16,8 +16,9 @@ use Rattle.paper.specs.Checks.{any}
 use Rattle.paper.specs.Shrink.{production-of}
 use Rattle.rows.specs.Places.{row-at, rest}
 use Rattle.rows.proofs.Rest.{rest-cons, rest-end}
-use Rattle.ruled.specs.Into.{into-from, Holds, leads}
-use Rattle.ruled.proofs.Arrays.{by-equal, holds-set}
+use Rattle.ruled.specs.Into.{into-from, leads}
+use Rattle.counts.specs.Arrays.{Holds}
+use Rattle.counts.proofs.Arrays.{by-equal, holds-set}
 
 module _ (ns : List ℤ) (i s : ℕ) where
   into-cons : i * 4 + 3 < length ns

@@ -1,12 +1,6 @@
-pub mod Arrays
 pub mod Firsts
 pub mod Somewhere
 pub mod Splits
 pub mod Hanging
-pub mod Once
-pub mod Seen
 pub mod Judging
 pub mod Passes
-pub mod Given
-pub mod Room
-pub mod Numbered

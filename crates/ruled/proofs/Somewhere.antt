@@ -47,9 +47,3 @@ module _ (f : Row → Bool) (ns : List ℤ) where
     where
       zero-add : 0 + r .at ≡ r .at
       zero-add = omega arith
-
-  -- no row passes a test that none passes
-  pub any-none : any f (rows-in ns) ≡ false → (i : ℕ) → i * 4 + 3 < length ns → f (row-at ns i) ≡ false
-  any-none e i h = by-test (f (row-at ns i))
-      (λ p. absurd (false≢true (sym e ∙ place-any (record { at = i; there = h; passes = p }))))
-      (λ p. p)

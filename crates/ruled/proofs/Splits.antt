@@ -16,8 +16,9 @@ use Rattle.paper.specs.Shrink.{production-of}
 use Rattle.laws.proofs.Productions.{same-production-eq, same-production-refl}
 use Rattle.rows.specs.Places.{row-at, bare, code}
 use Rattle.rows.proofs.Rest.{both, by-test}
-use Rattle.ruled.specs.Into.{into-from, Fitting, Marked, leads, differs}
-use Rattle.ruled.proofs.Arrays.{bound}
+use Rattle.ruled.specs.Into.{into-from, Marked, leads, differs}
+use Rattle.counts.specs.Arrays.{Fitting}
+use Rattle.counts.proofs.Arrays.{bound}
 use Rattle.ruled.proofs.Firsts.{First, into-any, into-row}
 use Rattle.ruled.proofs.Somewhere.{same-test, any-place, place-any}
 

@@ -7,7 +7,8 @@ ghost use lib.ListN.{length};
 ghost use Rattle.paper.specs.Rows.{rows-in};
 ghost use Rattle.paper.specs.Checks.{loose, split};
 ghost use Rattle.rows.specs.Places.{row-at, bare};
-ghost use Rattle.ruled.specs.Into.{Fitting, Marked, hangs, differs};
+ghost use Rattle.counts.specs.Arrays.{Fitting};
+ghost use Rattle.ruled.specs.Into.{Marked, hangs, differs};
 
 // Row i's from is not 0 and is no row's to.
 fn hangs(rows: &[i32], into: &[u16; 1024], i: usize) -> bool

@@ -3,7 +3,8 @@ use rows::numbers;
 ghost use mathlib.Core.Path.{_≡_};
 ghost use Prim.Native.Nat.{_<_, _≤_};
 ghost use lib.ListN.{length};
-ghost use Rattle.ruled.specs.Into.{Fitting, Clear, Marked};
+ghost use Rattle.counts.specs.Arrays.{Fitting, Clear};
+ghost use Rattle.ruled.specs.Into.{Marked};
 
 // Marks each state with the number, plus one, of the first row into it.
 pub fn mark(rows: &[i32], into: &mut [u16; 1024])

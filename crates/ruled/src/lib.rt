@@ -1,5 +1,4 @@
-// Document 01, module 1: the checks 5 to 7, the checks of a call in their order, and the state count.
+// Document 01, module 1: the checks 5 and 6, and the checks of a call in their order.
 pub mod checks;
-pub mod counts;
 pub mod into;
 pub mod verdict;

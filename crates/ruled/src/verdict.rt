@@ -1,6 +1,5 @@
 // The checks 2 to 6 and 2 to 7, one after the other.
 use crate::checks;
-use crate::counts;
 use crate::into;
 use paper::Refusal;
 use rows::verdict;
@@ -12,7 +11,7 @@ ghost use Rattle.paper.specs.Rows.{table};
 ghost use Rattle.paper.specs.Checks.{ruled, tree};
 ghost use Rattle.rows.specs.Places.{bare};
 ghost use Rattle.rows.specs.Verdicts.{Judges};
-ghost use Rattle.ruled.specs.Into.{Fitting};
+ghost use Rattle.counts.specs.Arrays.{Fitting};
 ghost use Rattle.ruled.specs.Beyond.{beyond};
 
 // The checks 4 to 6, of rows within their bounds.

@@ -21,12 +21,12 @@ use Rattle.paper.specs.Answers.{Ruling, accept, refuse, Made, Makes, number, de
 use Rattle.paper.specs.Checks.{row-slice, little-room, shape, split, ruled}
 use Rattle.paper.specs.Shrink.{production-of, rows-of, shrunk, shrink-table, shrink}
 use Rattle.rows.specs.Places.{code, uncoded}
-use Rattle.rows.specs.Search.{Passed}
+use Rattle.rows.specs.Passed.{Passed}
 use Rattle.rows.specs.Verdicts.{Judges, follow}
 use Rattle.rows.specs.declared.verdict.Verdict.{Verdict}
 use Rattle.rows.specs.declared.verdict.Verdict.the-variants.{Refused}
 use Rattle.rows.proofs.Judged.{judged, bounded}
-use Rattle.ruled.specs.Into.{Fitting}
+use Rattle.counts.specs.Arrays.{Fitting}
 use Rattle.ruled.proofs.Passes.{ruled-passed, ruled-rows, fitting}
 use Rattle.merging.specs.Marks.{source-of, heads-of, marked-row, marked-rows, marked, Marks}
 use Rattle.merging.proofs.States.{rows-of-in}

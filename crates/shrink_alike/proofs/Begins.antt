@@ -13,12 +13,12 @@ use lib.IntN.{ℤ}
 use Rattle.paper.specs.Rows.{Row, rows-in}
 use Rattle.paper.specs.Shrink.{rows-of}
 use Rattle.rows.specs.Places.{row-at, rest}
-use Rattle.rows.specs.Search.{Passed}
+use Rattle.rows.specs.Passed.{Passed}
 use Rattle.rows.proofs.Rest.{rest-cons, rest-end, both}
 use Rattle.rows.proofs.Keys.{compared}
-use Rattle.rows.proofs.Bracket.{keys-rise, fit-at}
-use Rattle.ruled.specs.Into.{Holds}
-use Rattle.ruled.proofs.Arrays.{by-equal, holds-set}
+use Rattle.rows.proofs.Passing.{keys-rise, fit-at}
+use Rattle.counts.specs.Arrays.{Holds}
+use Rattle.counts.proofs.Arrays.{by-equal, holds-set}
 use Rattle.shrink_alike.specs.Index.{from-first, leaves, Begun}
 
 -- an array of one number

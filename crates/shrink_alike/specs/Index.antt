@@ -7,8 +7,9 @@ use lib.ListN.{length}
 use lib.IntN.{ℤ}
 use Rattle.paper.specs.Rows.{Row, rows-in}
 use Rattle.rows.specs.Places.{row-at}
-use Rattle.rows.specs.Search.{Passed}
-use Rattle.ruled.specs.Into.{Holds, Marked}
+use Rattle.rows.specs.Passed.{Passed}
+use Rattle.counts.specs.Arrays.{Holds}
+use Rattle.ruled.specs.Into.{Marked}
 
 -- The first row from a state, where the first row has the number i; the end if there is none.
 unfoldable pub from-first : ℕ → List Row → ℕ → ℕ

@@ -4,7 +4,7 @@ ghost use mathlib.Core.Path.{_≡_};
 ghost use Prim.Native.Nat.{_/_, _<_, _≤_};
 ghost use lib.ListN.{length, getD};
 ghost use Rattle.paper.specs.Rows.{rows-in};
-ghost use Rattle.ruled.specs.Into.{Fitting, Holds};
+ghost use Rattle.counts.specs.Arrays.{Fitting, Holds};
 ghost use Rattle.shrink_alike.specs.Index.{from-first, leaves};
 
 // Sets for each state the first row from it, where the end stood for each.

@@ -8,7 +8,7 @@ ghost use lib.ListN.{length};
 ghost use Rattle.paper.specs.Rows.{rows-in};
 ghost use Rattle.paper.specs.Shrink.{production-of, rows-of, redirect};
 ghost use Rattle.rows.specs.Places.{code, uncoded, row-at};
-ghost use Rattle.rows.specs.Search.{Passed};
+ghost use Rattle.rows.specs.Passed.{Passed};
 ghost use Rattle.merging.specs.Marks.{compared};
 ghost use Rattle.shrink_alike.specs.Index.{Begun, Indexed};
 ghost use Rattle.shrink_alike.specs.Faces.{coded, mark-in, like, hash, sign, same-row, rows-alike};

@@ -16,7 +16,8 @@ use Rattle.laws.proofs.Members.{In}
 use Rattle.paper.specs.Rows.{rows-in, states}
 use Rattle.paper.specs.Checks.{any, row-fits}
 use Rattle.rows.proofs.Fits.{fit}
-use Rattle.ruled.specs.Into.{Marked, Fitting, leads}
+use Rattle.ruled.specs.Into.{Marked, leads}
+use Rattle.counts.specs.Arrays.{Fitting}
 use Rattle.ruled.proofs.Firsts.{into-any}
 use Rattle.merging.proofs.States.{zero-state, to-state, in-states}
 use Rattle.shrink_alike.specs.Faces.{coded}

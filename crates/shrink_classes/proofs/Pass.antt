@@ -15,8 +15,8 @@ use Rattle.paper.specs.Checks.{shape}
 use Rattle.paper.specs.Shrink.{Node, rows-of, equal}
 use Rattle.rows.specs.Places.{code}
 use Rattle.rows.proofs.Keys.{compared}
-use Rattle.ruled.specs.Into.{Holds}
-use Rattle.ruled.proofs.Arrays.{by-equal}
+use Rattle.counts.specs.Arrays.{Holds}
+use Rattle.counts.proofs.Arrays.{by-equal}
 use Rattle.merging.proofs.Equal.{equal-eq, eq-equal}
 use Rattle.merging.proofs.States.{rows-of-in, rows-of-state}
 use Rattle.merging.proofs.Ruled.{rows-climb}

@@ -10,7 +10,7 @@ use lib.ListN.{length, getD, set}
 use lib.Seq.{getD-set-same, getD-set-other}
 use Rattle.rows.proofs.Rest.{by-test}
 use Rattle.rows.proofs.Keys.{compared}
-use Rattle.ruled.proofs.Arrays.{by-equal}
+use Rattle.counts.proofs.Arrays.{by-equal}
 use Rattle.shrink_classes.specs.Slots.{slot, empty-in, Open, passes, Walks, Stops, Stands}
 use Rattle.shrink_classes.proofs.Walked.{slot-small, slot-met}
 

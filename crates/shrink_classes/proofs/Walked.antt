@@ -14,7 +14,7 @@ use native.Mathlib.Nat.{
 }
 use lib.Arith.{mod-mul}
 use lib.Pow.{pow-pos}
-use Rattle.ruled.proofs.Arrays.{by-equal}
+use Rattle.counts.proofs.Arrays.{by-equal}
 use Rattle.shrink_classes.specs.Slots.{slot}
 
 pub slot-small : (g d : ℕ) → slot g d < 1024

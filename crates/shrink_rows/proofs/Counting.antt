@@ -14,7 +14,7 @@ use Rattle.laws.proofs.Members.{In}
 use Rattle.paper.specs.Rows.{Table, states}
 use Rattle.rows.proofs.Keys.{compared}
 use Rattle.rows.proofs.Rest.{by-test}
-use Rattle.ruled.specs.Into.{Holds}
+use Rattle.counts.specs.Arrays.{Holds}
 use Rattle.merging.specs.Numbers.{Ascending}
 use Rattle.merging.specs.Marks.{lowest-of, place-among, head-of, heads-of}
 use Rattle.merging.proofs.Ends.{Lowest, lowest, lowest-is, in-heads, heads-in, heads-ascend}

@@ -11,7 +11,7 @@ ghost use lib.ListN.{length};
 ghost use Rattle.paper.specs.Rows.{rows-in};
 ghost use Rattle.paper.specs.Checks.{split};
 ghost use Rattle.paper.specs.Shrink.{rows-of};
-ghost use Rattle.rows.specs.Search.{Passed};
+ghost use Rattle.rows.specs.Passed.{Passed};
 ghost use Rattle.ruled.specs.Into.{Marked};
 ghost use Rattle.merging.specs.Marks.{heads-of, place-among};
 ghost use Rattle.shrink_alike.specs.Index.{Begun, Indexed};

@@ -19,8 +19,8 @@ use Rattle.paper.specs.Unite.{United, matched, take-rows}
 use Rattle.rows.specs.Places.{row-at, rest}
 use Rattle.rows.proofs.Rest.{rest-cons, rest-end, length-rows}
 use Rattle.rows.proofs.Fits.{Fit}
-use Rattle.rows.proofs.Bracket.{fit-at}
-use Rattle.ruled.specs.Into.{Clear}
+use Rattle.rows.proofs.Passing.{fit-at}
+use Rattle.counts.specs.Arrays.{Clear}
 use Rattle.trees.specs.Reach.{Seat, Finder, sit, said, seat-of, onward}
 use Rattle.trees.proofs.Tree.{Tree}
 use Rattle.trees.proofs.Paths.{path, word, onward-inv}

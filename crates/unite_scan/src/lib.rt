@@ -3,15 +3,15 @@ use paper::Mode;
 use paper::Production;
 use paper::Terminal;
 use rows::numbers;
-use rows::search::Found;
+use search::Found;
 use unite_meet::Meet;
 ghost use Prim.Native.Nat.{_/_, _<_, _≤_};
 ghost use lib.ListN.{length};
 ghost use Rattle.paper.specs.Rows.{rows-in};
 ghost use Rattle.rows.specs.Places.{row-at, uncoded};
-ghost use Rattle.rows.specs.Search.{Passed};
+ghost use Rattle.rows.specs.Passed.{Passed};
 ghost use mathlib.Core.Option.{some};
-ghost use Rattle.ruled.specs.Into.{Clear};
+ghost use Rattle.counts.specs.Arrays.{Clear};
 ghost use Rattle.unite_taking.specs.Taking.{Treed};
 ghost use Rattle.unite_scan.specs.Looking.{looked, seek, Looks, Scanned};
 
@@ -48,7 +48,7 @@ fn look_up(mode: Mode, a: &[i32], from: u16, token: Terminal, code: usize) -> Lo
     if from == 65535 {
         return Look::Match(65535);
     }
-    let found = rows::search::find(a, from as usize, token.0 as usize);
+    let found = search::find(a, from as usize, token.0 as usize);
     match found {
         Found::At(i) => hit(mode, a, i, code),
         Found::Missing(_) => Look::Match(65535),

@@ -21,15 +21,15 @@ use Rattle.paper.specs.Unite.{United, matched, take-rows}
 use Rattle.rows.specs.Places.{row-at, rest}
 use Rattle.rows.proofs.Rest.{rest-cons, rest-end}
 use Rattle.rows.proofs.Fits.{Fit}
-use Rattle.rows.proofs.Bracket.{fit-at}
+use Rattle.rows.proofs.Passing.{fit-at}
 use Rattle.trees.specs.Views.{merge}
 use Rattle.trees.proofs.Tree.{Tree}
 use Rattle.trees.proofs.Paths.{word}
 use Rattle.trees.proofs.Order.{Next, Ordered, ordered}
 use Rattle.trees.proofs.Matching.{Matching}
 use Rattle.trees.proofs.United.{begun, matching-start}
-use Rattle.ruled.specs.Into.{Holds, Clear}
-use Rattle.ruled.proofs.Arrays.{holds-set, holds-as}
+use Rattle.counts.specs.Arrays.{Holds, Clear}
+use Rattle.counts.proofs.Arrays.{holds-set, holds-as}
 use Rattle.grow_laws.specs.Held.{held, Laid}
 use Rattle.unite_taking.specs.Taking.{so-far, all-rows, Stands, Over, Unites, Clashes, Overflows, Treed}
 use Rattle.unite_taking.proofs.Steps.{one-row, after, step-refused, step-taken, match-on, first-row, many-stay}

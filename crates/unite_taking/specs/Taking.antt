@@ -11,7 +11,7 @@ use Rattle.paper.specs.declared.Making.{Making}
 use Rattle.paper.specs.Answers.{Ruling, accept, refuse, then, Made, Makes}
 use Rattle.paper.specs.Build.{insert, Standing, within}
 use Rattle.paper.specs.Unite.{taken, United, take-rows}
-use Rattle.rows.specs.Search.{Passed}
+use Rattle.rows.specs.Passed.{Passed}
 use Rattle.grow_laws.specs.Held.{view, held, Laid}
 use Rattle.trees.proofs.Paint.{paint}
 use Rattle.trees.proofs.Tree.{Tree}

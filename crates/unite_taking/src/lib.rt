@@ -4,14 +4,14 @@ use paper::Production;
 use paper::State;
 use paper::Terminal;
 use rows::numbers;
-use rows::search::Found;
+use search::Found;
 use unite_meet::Meet;
 ghost use Prim.Native.Nat.{_≤_};
 ghost use Rattle.paper.specs.Rows.{find, rows-in};
 ghost use Rattle.rows.specs.Places.{uncoded};
 ghost use Rattle.grow_laws.specs.Held.{view, held, row-held, Laid, Missed};
 ghost use Rattle.trees.proofs.Tree.{Tree};
-ghost use Rattle.ruled.specs.Into.{Clear};
+ghost use Rattle.counts.specs.Arrays.{Clear};
 ghost use Rattle.unite_taking.specs.Taking.{taking, Takes, Adds, Matches, Hit, United-rows, Treed};
 
 // What came of one row: where the rows begin, how many they are and the state that it matches; CLASH; or a row too many.

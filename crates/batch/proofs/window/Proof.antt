@@ -4,7 +4,7 @@ use native.Mathlib.Omega.{arith}
 use lib.ListN.{take, drop}
 use Rattle.paper.specs.Rows.{table}
 use Rattle.rows.proofs.Signed.{same, back}
-use Rattle.predict.specs.Seen.{checked}
+use Rattle.predict.specs.Checked.{checked}
 use Rattle.paper.specs.Batch.{answered}
 use borrow.Author.Needs.{needs}
 use Rattle.batch.proofs.window.Statement.{statement}

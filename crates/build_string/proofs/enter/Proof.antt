@@ -1,5 +1,5 @@
 use native.Mathlib.Omega.{arith}
-use Rattle.rows.specs.declared.search.Found.the-variants.{At}
+use Rattle.search.specs.declared.Found.the-variants.{At}
 use Rattle.grow_laws.specs.Held.{view, Missed, Seeks}
 use Rattle.build_string.proofs.Entered.{goes}
 use borrow.Author.Needs.{needs}

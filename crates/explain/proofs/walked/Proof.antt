@@ -1,6 +1,6 @@
-use Rattle.rows.proofs.Bracket.{fit-at}
-use Rattle.rows.specs.Search.{Finds}
-use Rattle.rows.specs.declared.search.Found.the-variants.{At}
+use Rattle.rows.proofs.Passing.{fit-at}
+use Rattle.search.specs.Search.{Finds}
+use Rattle.search.specs.declared.Found.the-variants.{At}
 use mathlib.Core.Path.{_≡_, refl, sym, ap, _∙_}
 use Prim.Native.Nat.{ℕ, _+_, _-_, _≤_}
 use native.Mathlib.Omega.{arith}

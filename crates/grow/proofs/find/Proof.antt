@@ -2,7 +2,7 @@ use mathlib.Core.Path.{subst}
 use mathlib.Core.List.{List}
 use Prim.Native.Nat.{_*_}
 use lib.IntN.{ℤ}
-use Rattle.rows.specs.Search.{Finds}
+use Rattle.search.specs.Search.{Finds}
 use Rattle.grow_laws.specs.Held.{view}
 use native.Mathlib.Omega.{arith}
 use Rattle.grow_laws.proofs.Viewed.{reach, rows-part, seeks}
@@ -11,7 +11,7 @@ use Rattle.grow.proofs.find.Statement.{statement}
 use Rattle.grow.proofs.find.Tie as tie
 use Rattle.grow.proofs.find.Reads as reads
 use Rattle.grow.proofs.find.Lts as lts
-use Rattle.rows.proofs.search.find.Reads as find-reads
+use Rattle.search.proofs.find.Reads as find-reads
 
 mul-first : tie.Need-mul-first
 mul-first c = let h = reach (c .args .buf .now) (c .args .lo) (c .args .n) (c .pre .0) in search needs

@@ -6,7 +6,7 @@ use Rattle.paper.specs.Rows.{accepting, table}
 use Rattle.paper.specs.Predict.{answer}
 use Rattle.rows.proofs.Signed.{same}
 use Rattle.rows.proofs.Judged.{plain-bounded, plain-passed}
-use Rattle.predict.specs.Seen.{seen, reached}
+use Rattle.walk.specs.Seen.{seen, reached}
 use Rattle.predict.proofs.Parts.{chosen-by}
 use Rattle.predict.proofs.chosen.Statement.{statement}
 use Rattle.predict.proofs.chosen.Tie as tie

@@ -1,5 +1,5 @@
 use Rattle.paper.specs.Rows.{table}
-use Rattle.predict.specs.Seen.{checked}
+use Rattle.predict.specs.Checked.{checked}
 use mathlib.Core.Path.{sym, ap, _∙_}
 use lib.IntN.{ℤ}
 use Rattle.rows.proofs.Signed.{same}

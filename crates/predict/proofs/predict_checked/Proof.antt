@@ -6,7 +6,7 @@ use mir.Syntax.{w32}
 use mir.Facts.{toZ-ofZ}
 use Rattle.paper.specs.Rows.{table}
 use Rattle.paper.specs.Predict.{chosen}
-use Rattle.predict.specs.Seen.{checked}
+use Rattle.predict.specs.Checked.{checked}
 use borrow.Author.Needs.{needs}
 use Rattle.predict.proofs.predict_checked.Statement.{statement}
 use Rattle.predict.proofs.predict_checked.Tie as tie

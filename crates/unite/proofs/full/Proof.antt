@@ -1,5 +1,5 @@
 use Rattle.paper.specs.Rows.{rows-in}
-use Rattle.ruled.proofs.Arrays.{clear}
+use Rattle.counts.proofs.Arrays.{clear}
 use Rattle.unite.proofs.Outcomes.{clash-refuses, full-refuses}
 use borrow.Author.Needs.{needs}
 use Rattle.unite.proofs.full.Statement.{statement}

@@ -5,7 +5,7 @@ use lib.ListN.{length, length-drop}
 use Rattle.paper.specs.Rows.{rows-in}
 use Rattle.rows.specs.Places.{uncoded}
 use Rattle.grow_laws.specs.Held.{view}
-use Rattle.ruled.proofs.Arrays.{clear}
+use Rattle.counts.proofs.Arrays.{clear}
 use Rattle.trees.proofs.Tree.{Tree}
 use Rattle.unite_taking.specs.Taking.{United-rows}
 use Rattle.unite_taking.specs.declared.Union.{Union}

@@ -1,7 +1,7 @@
 use mathlib.Core.Path.{ap, sym, _∙_}
 use native.Mathlib.Omega.{arith}
 use Rattle.rows.specs.Places.{row-at, uncoded}
-use Rattle.rows.proofs.Bracket.{fit-at}
+use Rattle.rows.proofs.Passing.{fit-at}
 use Rattle.rows.proofs.Codes.{uncoded-code}
 use Rattle.unite_scan.proofs.Looked.{hit-clash, hit-match}
 use borrow.Author.Needs.{needs}

@@ -2,8 +2,8 @@ use mathlib.Core.Path.{subst, sym}
 use mathlib.Core.Option.{Option, some}
 use Rattle.paper.specs.Rows.{Row, rows-in}
 use Rattle.rows.specs.Places.{row-at, uncoded}
-use Rattle.rows.specs.Search.{Finds}
-use Rattle.rows.specs.declared.search.Found.the-variants.{At, Missing}
+use Rattle.search.specs.Search.{Finds}
+use Rattle.search.specs.declared.Found.the-variants.{At, Missing}
 use Rattle.unite_scan.specs.Looking.{looked, Looks}
 use Rattle.unite_scan.proofs.Looked.{look-none, seek-is, look-missing}
 use borrow.Author.Needs.{needs}
@@ -11,7 +11,7 @@ use Rattle.unite_scan.proofs.look_up.Statement.{statement}
 use Rattle.unite_scan.proofs.look_up.Tie as tie
 use Rattle.unite_scan.proofs.look_up.Reads as reads
 use Rattle.unite_scan.proofs.look_up.Lts as lts
-use Rattle.rows.proofs.search.find.Reads as find-reads
+use Rattle.search.proofs.find.Reads as find-reads
 use Rattle.unite_scan.proofs.hit.Reads as hit-reads
 
 returns : tie.Need-returns

@@ -2,7 +2,7 @@ use mathlib.Core.Path.{sym, subst}
 use mathlib.Core.Option.{Option}
 use Rattle.paper.specs.Rows.{Row}
 use Rattle.rows.specs.Places.{uncoded}
-use Rattle.rows.specs.declared.search.Found.the-variants.{At}
+use Rattle.search.specs.declared.Found.the-variants.{At}
 use Rattle.grow_laws.specs.Held.{view, held, Missed, Seeks}
 use Rattle.unite_taking.specs.Taking.{taking, Takes}
 use borrow.Author.Needs.{needs}

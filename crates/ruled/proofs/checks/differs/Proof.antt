@@ -1,7 +1,7 @@
 -- The test of one row for SPLIT, by the row that marks its to. Assumes nothing.
 use Prim.Native.Nat.{_-_}
 use native.Mathlib.Omega.{arith}
-use Rattle.ruled.proofs.Arrays.{bound}
+use Rattle.counts.proofs.Arrays.{bound}
 use Rattle.ruled.proofs.Splits.{first-read, differs-mark}
 use borrow.Author.Needs.{needs}
 use Rattle.ruled.proofs.checks.differs.Statement.{statement}

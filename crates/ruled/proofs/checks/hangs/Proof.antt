@@ -2,7 +2,7 @@
 use native.Mathlib.Omega.{arith}
 use Rattle.paper.specs.Rows.{rows-in}
 use Rattle.rows.specs.Places.{row-at}
-use Rattle.ruled.proofs.Arrays.{bound}
+use Rattle.counts.proofs.Arrays.{bound}
 use Rattle.ruled.proofs.Hanging.{hang-zero, hang-mark}
 use borrow.Author.Needs.{needs}
 use Rattle.ruled.proofs.checks.hangs.Statement.{statement}

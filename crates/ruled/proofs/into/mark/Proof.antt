@@ -4,8 +4,9 @@ use Prim.Native.Nat.{_-_, _/_, _≤_}
 use native.Mathlib.Omega.{arith}
 use lib.ListN.{length}
 use Rattle.rows.specs.Places.{rest}
-use Rattle.ruled.specs.Into.{into-from, Holds}
-use Rattle.ruled.proofs.Arrays.{holds-as, bound}
+use Rattle.ruled.specs.Into.{into-from}
+use Rattle.counts.specs.Arrays.{Holds}
+use Rattle.counts.proofs.Arrays.{holds-as, bound}
 use Rattle.ruled.proofs.Firsts.{into-end, mark-row}
 use Rattle.ruled.proofs.into.mark.Statement.{statement}
 use Rattle.ruled.proofs.into.mark.Tie as tie

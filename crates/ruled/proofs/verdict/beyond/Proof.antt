@@ -2,7 +2,7 @@
 use mathlib.Core.Path.{refl, sym, _∙_}
 use Rattle.paper.specs.declared.Refusal.the-variants.{Shape, Loose, Split}
 use Rattle.rows.proofs.Judged.{done, refuses, next-check}
-use Rattle.ruled.proofs.Arrays.{clear}
+use Rattle.counts.proofs.Arrays.{clear}
 use borrow.Author.Needs.{needs}
 use Rattle.ruled.proofs.verdict.beyond.Statement.{statement}
 use Rattle.ruled.proofs.verdict.beyond.Tie as tie

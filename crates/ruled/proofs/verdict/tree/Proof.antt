@@ -12,7 +12,7 @@ use Rattle.ruled.proofs.verdict.tree.Statement.{statement}
 use Rattle.ruled.proofs.verdict.tree.Tie as tie
 use Rattle.ruled.proofs.verdict.tree.Reads as reads
 use Rattle.ruled.proofs.verdict.tree.Lts as lts
-use Rattle.ruled.proofs.counts.no_tree.Reads as no-tree-reads
+use Rattle.counts.proofs.no_tree.Reads as no-tree-reads
 use Rattle.ruled.proofs.verdict.ruled.Reads as ruled-reads
 
 ruled-requires : tie.Need-ruled-requires

@@ -3,8 +3,8 @@ use Prim.Native.Nat.{_-_, _/_, _≤_}
 use native.Mathlib.Omega.{arith}
 use lib.ListN.{length}
 use Rattle.rows.specs.Places.{rest}
-use Rattle.ruled.specs.Into.{Holds}
-use Rattle.ruled.proofs.Arrays.{holds-as, bound}
+use Rattle.counts.specs.Arrays.{Holds}
+use Rattle.counts.proofs.Arrays.{holds-as, bound}
 use Rattle.shrink_alike.specs.Index.{from-first}
 use Rattle.shrink_alike.proofs.Begins.{from-end, first-row}
 use Rattle.shrink_alike.proofs.index.firsts.Statement.{statement}

@@ -1,6 +1,6 @@
 use mathlib.Core.Path.{ap, _∙_}
 use native.Mathlib.Omega.{arith}
-use Rattle.rows.proofs.Bracket.{fit-at}
+use Rattle.rows.proofs.Passing.{fit-at}
 use Rattle.shrink_alike.specs.Faces.{mark-in}
 use borrow.Author.Needs.{needs}
 use Rattle.shrink_alike.proofs.same.to_mark.Statement.{statement}

@@ -4,7 +4,7 @@ use native.Mathlib.Omega.{arith}
 use lib.ListN.{getD, length-set}
 use Rattle.paper.specs.Rows.{rows-in}
 use Rattle.rows.specs.Places.{row-at}
-use Rattle.rows.proofs.Bracket.{fit-at}
+use Rattle.rows.proofs.Passing.{fit-at}
 use Rattle.merging.proofs.States.{to-state}
 use Rattle.shrink_rows.specs.Output.{new-row}
 use Rattle.shrink_rows.proofs.Emitting.{row-in}

@@ -1,0 +1,3 @@
+pub mod Arrays
+pub mod Once
+pub mod Seen

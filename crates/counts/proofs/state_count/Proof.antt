@@ -1,0 +1,17 @@
+-- The count starts with no state seen. Assumes nothing.
+use Rattle.counts.proofs.Arrays.{clear}
+use borrow.Author.Needs.{needs}
+use Rattle.counts.proofs.state_count.Statement.{statement}
+use Rattle.counts.proofs.state_count.Tie as tie
+use Rattle.counts.proofs.state_count.Reads as reads
+use Rattle.counts.proofs.state_count.Lts as lts
+use Rattle.counts.proofs.count_states.Reads as count-states-reads
+
+count-states-requires : tie.Need-count-states-requires
+count-states-requires c κs = (c .before .pre, clear)
+
+returns : tie.Need-returns
+returns c = search needs
+
+pub state-count-spec : {M : Type 1} → statement M
+state-count-spec = tie.close (tie.spec count-states-requires returns)
