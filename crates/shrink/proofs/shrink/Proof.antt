@@ -19,11 +19,9 @@ use Rattle.rows.proofs.checks.row_slice.Reads as row-slice-reads
 use Rattle.ruled.proofs.verdict.ruled.Reads as ruled-reads
 use Rattle.shrink.proofs.shrink_ruled.Reads as shrink-ruled-reads
 
--- src/lib.rt:99:8
 row-slice-requires : tie.Need-row-slice-requires
 row-slice-requires c κs = search needs
 
--- src/lib.rt:100:9
 returns : tie.Need-returns
 returns c =
     let s = c .before .before in
@@ -32,7 +30,6 @@ returns c =
     (length (a .out .now))
     (sym (c .before .row-slice .ensures) ∙ c .if1 .taken))
 
--- src/lib.rt:103:9
 returns-2 : tie.Need-returns-2
 returns-2 c =
     let i = c .before in
@@ -42,22 +39,18 @@ returns-2 c =
     (length (a .out .now))
     (sym (i .before .row-slice .ensures) ∙ i .if1 .left) (c .if2 .taken))
 
--- src/lib.rt:105:9
 ruled-requires : tie.Need-ruled-requires
 ruled-requires c κs =
     let i = c .before in
     let s = i .before .before in
     slice-few (s .args .rows .now) (sym (i .before .row-slice .ensures) ∙ i .if1 .left)
 
--- src/lib.rt:107:26
 enum-known-verdict : tie.Need-enum-known-verdict
 enum-known-verdict c = search needs
 
--- src/lib.rt:108:61
 enum-told : tie.Need-enum-told
 enum-told c = search needs
 
--- src/lib.rt:108:26
 shrink-ruled-requires : tie.Need-shrink-ruled-requires
 shrink-ruled-requires c κs =
     let t = c .before in
@@ -72,7 +65,6 @@ shrink-ruled-requires c κs =
       v .before .if2 .left,
     )
 
--- src/lib.rt:95:1
 returns-3 : tie.Need-returns-3
 returns-3 c =
     let v = c .before .before .before in
@@ -86,11 +78,9 @@ returns-3 c =
     (v .before .if2 .left) _
     (rw (c .before .verdict .given .1) at (rw (same (a .prod0) (s .fits .prod0)) at (v .ruled .ensures))))
 
--- src/lib.rt:95:1
 same-length : tie.Need-same-length
 same-length c = search needs
 
--- src/lib.rt:95:1
 returns-4 : tie.Need-returns-4
 returns-4 c =
     let t = c .before .before .before in

@@ -13,11 +13,9 @@ use Rattle.shrink_classes.proofs.classes.classes.Reads as classes-reads
 use Rattle.shrink_classes.proofs.classes.top.Reads as top-reads
 use Rattle.shrink.proofs.write.Reads as write-reads
 
--- src/lib.rt:68:9
 top-requires : tie.Need-top-requires
 top-requires c κs = (c .pre .0 .1, fitting (c .pre .0 .0 .passed) (c .pre .0 .0 .few))
 
--- src/lib.rt:69:5
 classes-requires : tie.Need-classes-requires
 classes-requires c κs =
     let t = c .before in
@@ -25,7 +23,6 @@ classes-requires c κs =
     let a = s .args in
     (s .pre .0, t .top .ensures, shape-rows none (uncoded (a .p0)) 0 0 (rows-in (a .rows .now)) (s .pre .1), refl)
 
--- src/lib.rt:70:5
 write-requires : tie.Need-write-requires
 write-requires c κs =
     let k = c .before .before in
@@ -40,11 +37,9 @@ write-requires c κs =
       s .pre .3,
     )
 
--- src/lib.rt:55:1
 same-length : tie.Need-same-length
 same-length c = search needs
 
--- src/lib.rt:55:1
 returns : tie.Need-returns
 returns c =
     let w = c .before in

@@ -18,27 +18,22 @@ use Rattle.ruled.proofs.into.mark.Reads as mark-reads
 use Rattle.shrink_alike.proofs.index.firsts.Reads as firsts-reads
 use Rattle.shrink.proofs.shrink_indexed.Reads as shrink-indexed-reads
 
--- src/lib.rt:79:9
 coded-requires : tie.Need-coded-requires
 coded-requires c κs = search needs
 
--- src/lib.rt:80:13
 cast-n : tie.Need-cast-n
 cast-n c = omega (arith, c .before .pre .0 .few)
 
--- src/lib.rt:82:5
 mark-requires : tie.Need-mark-requires
 mark-requires c κs =
     let s = c .before .before in
     (sound-fitting (s .pre .0), filled 0)
 
--- src/lib.rt:84:5
 firsts-requires : tie.Need-firsts-requires
 firsts-requires c κs =
     let s = c .before .before .before .before in
     (sound-fitting (s .pre .0), filled (length (s .args .rows .now) / 4))
 
--- src/lib.rt:85:9
 shrink-indexed-requires : tie.Need-shrink-indexed-requires
 shrink-indexed-requires c κs =
     let f = c .before .before .before in
@@ -54,11 +49,9 @@ shrink-indexed-requires c κs =
       s .pre .1,
     )
 
--- src/lib.rt:74:1
 same-length : tie.Need-same-length
 same-length c = search needs
 
--- src/lib.rt:74:1
 returns : tie.Need-returns
 returns c =
     let i = c .before in

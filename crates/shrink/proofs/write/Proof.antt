@@ -7,21 +7,17 @@ use Rattle.shrink.proofs.write.Lts as lts
 use Rattle.shrink_rows.proofs.emit.emit.Reads as emit-reads
 use Rattle.shrink_rows.proofs.places.places.Reads as places-reads
 
--- src/lib.rt:46:9
 places-requires : tie.Need-places-requires
 places-requires c κs =
     let s = c .before in
     (s .pre .0 .1, s .pre .2, s .pre .1, filled 65535)
 
--- src/lib.rt:47:9
 emit-requires : tie.Need-emit-requires
 emit-requires c κs = search needs
 
--- src/lib.rt:32:1
 same-length : tie.Need-same-length
 same-length c = search needs
 
--- src/lib.rt:32:1
 returns : tie.Need-returns
 returns c = search needs
 

@@ -19,43 +19,35 @@ Inv-loop rows first₀ i₀ first i = (i ≤ length rows / 4) × Holds (from-fir
 abbrev μ-loop : tie.MeasureT-loop
 μ-loop rows first₀ i₀ first i = i
 
--- src/index.rt:17:5
 loop-holds : tie.Need-loop-holds Inv-loop μ-loop
 loop-holds c =
     let ns = c .args .rows .now in
     (omega arith, holds-as (λ s. from-end ns (length ns / 4) s (omega arith)) (c .pre .1))
 
--- src/index.rt:18:9
 sub-i : tie.Need-sub-i Inv-loop μ-loop
 sub-i c = omega arith
 
--- src/index.rt:19:13
 from-at-requires : tie.Need-from-at-requires Inv-loop μ-loop
 from-at-requires c κs = omega arith
 
--- src/index.rt:20:23
 cast-first : tie.Need-cast-first Inv-loop μ-loop
 cast-first c = omega (arith, c .before .before .before .pre .0 .few)
 
--- src/index.rt:20:9
 mul-first : tie.Need-mul-first Inv-loop μ-loop
 mul-first c =
     let l = c .before .before in
     let f = bound (l .before .pre .0) (l .loop .i - 1) (omega arith) in
     omega (arith, f .from, c .from-at .ensures)
 
--- src/index.rt:20:9
 element-write-first : tie.Need-element-write-first Inv-loop μ-loop
 element-write-first c =
     let l = c .before .before in
     let f = bound (l .before .pre .0) (l .loop .i - 1) (omega arith) in
     omega (arith, f .from, c .from-at .ensures)
 
--- src/index.rt:17:5
 loop-less : tie.Need-loop-less Inv-loop μ-loop
 loop-less c = omega arith
 
--- src/index.rt:17:5
 loop-again : tie.Need-loop-again Inv-loop μ-loop
 loop-again c =
     let l = c .before .before in
@@ -67,7 +59,6 @@ loop-again c =
           (l .loop .inv .1) (c .from-at .ensures .is) (omega (arith, f .from, c .from-at .ensures)),
     )
 
--- src/index.rt:12:1
 returns : tie.Need-returns Inv-loop μ-loop
 returns c =
     let l = c .before in

@@ -6,15 +6,12 @@ use Rattle.shrink_alike.proofs.index.leaves.Reads as reads
 use Rattle.shrink_alike.proofs.index.leaves.Lts as lts
 use Rattle.rows.proofs.numbers.from_at.Reads as from-at-reads
 
--- src/index.rt:29:9
 returns : tie.Need-returns
 returns c = rw (le-ltb _ _ (c .if1 .taken))
 
--- src/index.rt:31:5
 from-at-requires : tie.Need-from-at-requires
 from-at-requires c κs = search needs
 
--- src/index.rt:25:1
 returns-2 : tie.Need-returns-2
 returns-2 c =
     let s = c .before .before in

@@ -5,19 +5,15 @@ use Rattle.shrink_alike.proofs.same.compared.Tie as tie
 use Rattle.shrink_alike.proofs.same.compared.Reads as reads
 use Rattle.shrink_alike.proofs.same.compared.Lts as lts
 
--- src/same.rt:34:25
 enum-told : tie.Need-enum-told
 enum-told c = search needs
 
--- src/same.rt:35:26
 enum-told-2 : tie.Need-enum-told-2
 enum-told-2 c = search needs
 
--- src/same.rt:30:1
 returns : tie.Need-returns
 returns c = compared-intake (c .before .before .args .mode) (c .before .before .args .p) (c .enum-told .given .1)
 
--- src/same.rt:30:1
 returns-2 : tie.Need-returns-2
 returns-2 c = compared-archive (c .before .before .args .mode) (c .before .before .args .p) (c .enum-told2 .given .1)
 

@@ -24,26 +24,21 @@ Inv-loop rows first class s h r₀ i₀ r i = Standing rows s i × (r < 65521)
 abbrev μ-loop : tie.MeasureT-loop
 μ-loop rows first class s h r₀ i₀ r i = length rows / 4 - i
 
--- src/same.rt:53:9
 at-requires : tie.Need-at-requires Inv-loop μ-loop
 at-requires c κs = search needs
 
--- src/same.rt:54:5
 loop-holds : tie.Need-loop-holds Inv-loop μ-loop
 loop-holds c =
     let s = c .before in
     let w = walk-begins (s .pre .0) (s .args .s) (c .at .result) (s .pre .1) (c .at .ensures .0) in
     (w .stands, s .pre .2, hash-start (s .args .rows .now) (mark-in (s .args .class .now)) (s .args .h) w)
 
--- src/same.rt:54:11
 leaves-requires : tie.Need-leaves-requires Inv-loop μ-loop
 leaves-requires c κs = search needs
 
--- src/same.rt:55:14
 mul-r : tie.Need-mul-r Inv-loop μ-loop
 mul-r c = omega arith
 
--- src/same.rt:55:23
 terminal-at-requires : tie.Need-terminal-at-requires Inv-loop μ-loop
 terminal-at-requires c κs =
     let l = c .before .before in
@@ -51,15 +46,12 @@ terminal-at-requires c κs =
     let p = leaves-yes (a .rows .now) (a .s) (l .loop .i) (sym (c .before .leaves .ensures) ∙ c .if1 .taken) in
     omega (arith, p .0)
 
--- src/same.rt:55:23
 mul-r-2 : tie.Need-mul-r-2 Inv-loop μ-loop
 mul-r-2 c = omega (arith, c .terminal-at .ensures)
 
--- src/same.rt:55:14
 add-r : tie.Need-add-r Inv-loop μ-loop
 add-r c = omega (arith, c .terminal-at .ensures)
 
--- src/same.rt:55:59
 to-mark-requires : tie.Need-to-mark-requires Inv-loop μ-loop
 to-mark-requires c κs =
     let t = c .before in
@@ -69,11 +61,9 @@ to-mark-requires c κs =
     let p = leaves-yes (a .rows .now) (a .s) (l .loop .i) (sym (t .before .leaves .ensures) ∙ t .if1 .taken) in
     (s .pre .0 .passed, p .0)
 
--- src/same.rt:55:14
 add-r-2 : tie.Need-add-r-2 Inv-loop μ-loop
 add-r-2 c = omega (arith, c .to-mark .ensures, c .before .terminal-at .ensures)
 
--- src/same.rt:56:9
 add-i : tie.Need-add-i Inv-loop μ-loop
 add-i c =
     let t = c .before .before in
@@ -83,7 +73,6 @@ add-i c =
     let p = leaves-yes (a .rows .now) (a .s) (l .loop .i) (sym (t .before .leaves .ensures) ∙ t .if1 .taken) in
     omega (arith, p .0, s .pre .0 .few)
 
--- src/same.rt:54:5
 loop-less : tie.Need-loop-less Inv-loop μ-loop
 loop-less c =
     let t = c .before .before in
@@ -93,7 +82,6 @@ loop-less c =
     let p = leaves-yes (a .rows .now) (a .s) (l .loop .i) (sym (t .before .leaves .ensures) ∙ t .if1 .taken) in
     omega (arith, p .0)
 
--- src/same.rt:54:5
 loop-again : tie.Need-loop-again Inv-loop μ-loop
 loop-again c =
     let t = c .before .before in
@@ -109,7 +97,6 @@ loop-again c =
           (c .to-mark .ensures .0),
     )
 
--- src/same.rt:48:1
 returns : tie.Need-returns Inv-loop μ-loop
 returns c =
     let l = c .before .before in

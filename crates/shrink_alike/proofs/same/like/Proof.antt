@@ -11,15 +11,12 @@ use Rattle.shrink_alike.proofs.same.compared.Reads as compared-reads
 use Rattle.shrink_alike.proofs.same.production.Reads as production-reads
 use Rattle.shrink_alike.proofs.same.same_rows.Reads as same-rows-reads
 
--- src/same.rt:127:9
 production-requires : tie.Need-production-requires
 production-requires c κs = search needs
 
--- src/same.rt:128:13
 production-requires-2 : tie.Need-production-requires-2
 production-requires-2 c κs = search needs
 
--- src/same.rt:129:9
 returns : tie.Need-returns
 returns c =
     let q = c .before in
@@ -28,11 +25,9 @@ returns c =
     like-not (a .mode) (a .p0) (a .rows .now) (mark-in (a .class .now)) (a .a) (a .b) (p .production .result)
     (q .production2 .result) (p .production .ensures) (q .production2 .ensures) (c .if1 .taken)
 
--- src/same.rt:131:9
 compared-requires : tie.Need-compared-requires
 compared-requires c κs = search needs
 
--- src/same.rt:132:9
 returns-2 : tie.Need-returns-2
 returns-2 c =
     let m = c .before in
@@ -43,11 +38,9 @@ returns-2 c =
     (q .production2 .result) (p .production .ensures) (q .production2 .ensures) (m .before .if1 .left)
     (sym (m .compared .ensures) ∙ not-true _ (c .if2 .taken))
 
--- src/same.rt:134:5
 same-rows-requires : tie.Need-same-rows-requires
 same-rows-requires c κs = search needs
 
--- src/same.rt:114:1
 returns-3 : tie.Need-returns-3
 returns-3 c =
     let m = c .before .before in

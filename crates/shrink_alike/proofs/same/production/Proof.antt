@@ -9,11 +9,9 @@ use Rattle.shrink_alike.proofs.same.production.Lts as lts
 use Rattle.rows.proofs.numbers.code_at.Reads as code-at-reads
 use Rattle.shrink_alike.proofs.index.at.Reads as at-reads
 
--- src/same.rt:22:9
 at-requires : tie.Need-at-requires
 at-requires c κs = search needs
 
--- src/same.rt:24:9
 returns : tie.Need-returns
 returns c =
     let h = c .before in
@@ -21,11 +19,9 @@ returns c =
     production-none (s .args .rows .now) (s .args .into .now) (s .pre .0 .1) (s .args .s) (h .at .result)
     (s .pre .1) (h .at .ensures .0) (s .args .p0) (c .if1 .taken)
 
--- src/same.rt:26:28
 sub-code-at : tie.Need-sub-code-at
 sub-code-at c = search needs
 
--- src/same.rt:26:5
 code-at-requires : tie.Need-code-at-requires
 code-at-requires c κs =
     let h = c .before in
@@ -33,7 +29,6 @@ code-at-requires c κs =
     production-row (s .args .rows .now) (s .args .into .now) (s .pre .0 .1) (s .args .s) (h .at .result)
     (s .pre .1) (h .at .ensures .0) (c .if1 .left) .there
 
--- src/same.rt:18:1
 returns-2 : tie.Need-returns-2
 returns-2 c =
     let h = c .before .before in

@@ -8,15 +8,12 @@ use Rattle.shrink_alike.proofs.same.same_row.Lts as lts
 use Rattle.rows.proofs.numbers.terminal_at.Reads as terminal-at-reads
 use Rattle.shrink_alike.proofs.same.to_mark.Reads as to-mark-reads
 
--- src/same.rt:87:8
 terminal-at-requires : tie.Need-terminal-at-requires
 terminal-at-requires c κs = search needs
 
--- src/same.rt:87:41
 terminal-at-requires-2 : tie.Need-terminal-at-requires-2
 terminal-at-requires-2 c κs = search needs
 
--- src/same.rt:88:9
 returns : tie.Need-returns
 unfolding same-row
 returns c =
@@ -24,15 +21,12 @@ returns c =
     let x = y .before in
     rw (← x .terminal-at .ensures .is, ← y .terminal-at2 .ensures .is, ne-eqb _ _ (c .if1 .taken))
 
--- src/same.rt:90:5
 to-mark-requires : tie.Need-to-mark-requires
 to-mark-requires c κs = search needs
 
--- src/same.rt:90:31
 to-mark-requires-2 : tie.Need-to-mark-requires-2
 to-mark-requires-2 c κs = search needs
 
--- src/same.rt:83:1
 returns-2 : tie.Need-returns-2
 unfolding same-row
 returns-2 c =

@@ -24,15 +24,12 @@ Inv-loop rows first class a b i₀ j₀ i j = Standing rows a i × Standing rows
 abbrev μ-loop : tie.MeasureT-loop
 μ-loop rows first class a b i₀ j₀ i j = length rows / 4 - i
 
--- src/same.rt:98:9
 at-requires : tie.Need-at-requires Inv-loop μ-loop
 at-requires c κs = search needs
 
--- src/same.rt:99:9
 at-requires-2 : tie.Need-at-requires-2 Inv-loop μ-loop
 at-requires-2 c κs = search needs
 
--- src/same.rt:100:5
 loop-holds : tie.Need-loop-holds Inv-loop μ-loop
 loop-holds c =
     let x = c .before in
@@ -41,15 +38,12 @@ loop-holds c =
     let w = walk-begins (s .pre .0) (s .args .b) (c .at2 .result) (s .pre .2) (c .at2 .ensures .0) in
     (v .stands, w .stands, alike-start (s .args .rows .now) (mark-in (s .args .class .now)) v w)
 
--- src/same.rt:100:11
 leaves-requires : tie.Need-leaves-requires Inv-loop μ-loop
 leaves-requires c κs = search needs
 
--- src/same.rt:101:13
 leaves-requires-2 : tie.Need-leaves-requires-2 Inv-loop μ-loop
 leaves-requires-2 c κs = search needs
 
--- src/same.rt:102:13
 returns : tie.Need-returns Inv-loop μ-loop
 returns c =
     let y = c .before in
@@ -61,7 +55,6 @@ returns c =
     (sym (y .leaves2 .ensures) ∙ not-true _ (c .if2 .taken))
     ∙ sym (l .loop .inv .2)
 
--- src/same.rt:104:13
 same-row-requires : tie.Need-same-row-requires Inv-loop μ-loop
 same-row-requires c κs =
     let y = c .before in
@@ -73,7 +66,6 @@ same-row-requires c κs =
     let q = leaves-yes (a .rows .now) (a .b) (l .loop .j) (sym (y .leaves2 .ensures) ∙ not-false _ (c .if2 .left)) in
     (s .pre .0 .passed, p .0, q .0)
 
--- src/same.rt:105:13
 returns-2 : tie.Need-returns-2 Inv-loop μ-loop
 returns-2 c =
     let z = c .before in
@@ -87,7 +79,6 @@ returns-2 c =
     (sym (z .same-row .ensures) ∙ not-true _ (c .if3 .taken))
     ∙ sym (l .loop .inv .2)
 
--- src/same.rt:107:9
 add-i : tie.Need-add-i Inv-loop μ-loop
 add-i c =
     let z = c .before in
@@ -99,7 +90,6 @@ add-i c =
     let p = leaves-yes (a .rows .now) (a .a) (l .loop .i) (sym (x .leaves .ensures) ∙ y .before .if1 .taken) in
     omega (arith, p .0, s .pre .0 .few)
 
--- src/same.rt:108:9
 add-j : tie.Need-add-j Inv-loop μ-loop
 add-j c =
     let z = c .before in
@@ -112,7 +102,6 @@ add-j c =
     (sym (y .leaves2 .ensures) ∙ not-false _ (z .before .if2 .left)) in
     omega (arith, q .0, s .pre .0 .few)
 
--- src/same.rt:100:5
 loop-less : tie.Need-loop-less Inv-loop μ-loop
 loop-less c =
     let z = c .before in
@@ -124,7 +113,6 @@ loop-less c =
     let p = leaves-yes (a .rows .now) (a .a) (l .loop .i) (sym (x .leaves .ensures) ∙ y .before .if1 .taken) in
     omega (arith, p .0)
 
--- src/same.rt:100:5
 loop-again : tie.Need-loop-again Inv-loop μ-loop
 loop-again c =
     let z = c .before in
@@ -141,11 +129,9 @@ loop-again c =
           (l .loop .inv .0) (l .loop .inv .1) p q (sym (z .same-row .ensures) ∙ not-false _ (c .if3 .left)),
     )
 
--- src/same.rt:110:6
 leaves-requires-3 : tie.Need-leaves-requires-3 Inv-loop μ-loop
 leaves-requires-3 c κs = search needs
 
--- src/same.rt:94:1
 returns-3 : tie.Need-returns-3 Inv-loop μ-loop
 returns-3 c =
     let x = c .before .before in

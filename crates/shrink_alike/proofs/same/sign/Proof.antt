@@ -10,19 +10,15 @@ use Rattle.shrink_alike.proofs.same.compared.Reads as compared-reads
 use Rattle.shrink_alike.proofs.same.hash.Reads as hash-reads
 use Rattle.shrink_alike.proofs.same.production.Reads as production-reads
 
--- src/same.rt:74:9
 production-requires : tie.Need-production-requires
 production-requires c κs = search needs
 
--- src/same.rt:76:8
 compared-requires : tie.Need-compared-requires
 compared-requires c κs = search needs
 
--- src/same.rt:77:9
 hash-requires : tie.Need-hash-requires
 hash-requires c κs = search needs
 
--- src/same.rt:77:9
 returns : tie.Need-returns
 returns c =
     let m = c .before .before in
@@ -31,7 +27,6 @@ returns c =
     sign-rows (a .mode) (a .p0) (a .rows .now) (mark-in (a .class .now)) (a .s) (p .production .result)
     (p .production .ensures) (sym (m .compared .ensures) ∙ c .before .if1 .taken) (c .hash .result) (c .hash .ensures)
 
--- src/same.rt:62:1
 returns-2 : tie.Need-returns-2
 returns-2 c =
     let m = c .before in

@@ -10,17 +10,14 @@ use Rattle.shrink_alike.proofs.same.to_mark.Lts as lts
 use Rattle.rows.proofs.numbers.to_at.Reads as to-at-reads
 use Rattle.shrink_alike.proofs.index.at.Reads as at-reads
 
--- src/same.rt:44:22
 to-at-requires : tie.Need-to-at-requires
 to-at-requires c κs = search needs
 
--- src/same.rt:44:5
 at-requires : tie.Need-at-requires
 at-requires c κs =
     let s = c .before in
     omega (arith, c .to-at .ensures, fit-at (s .pre .0) (s .args .i) (s .pre .1) .to)
 
--- src/same.rt:40:1
 returns : tie.Need-returns
 returns c =
     let h = c .before in

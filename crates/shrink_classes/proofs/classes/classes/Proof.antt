@@ -6,13 +6,11 @@ use Rattle.shrink_classes.proofs.classes.classes.Reads as reads
 use Rattle.shrink_classes.proofs.classes.classes.Lts as lts
 use Rattle.shrink_classes.proofs.classes.classify.Reads as classify-reads
 
--- src/classes.rt:109:5
 classify-requires : tie.Need-classify-requires
 classify-requires c κs =
     let s = c .before .before in
     (s .pre .0, s .pre .1, s .pre .2, filled 65535, s .pre .3)
 
--- src/classes.rt:95:1
 returns : tie.Need-returns
 returns c = search needs
 

@@ -18,7 +18,6 @@ Inv-loop mode p0 rows into first top slots₀ class₀ s₀ slots class s = (s �
 abbrev μ-loop : tie.MeasureT-loop
 μ-loop mode p0 rows into first top slots₀ class₀ s₀ slots class s = s
 
--- src/classes.rt:86:5
 loop-holds : tie.Need-loop-holds Inv-loop μ-loop
 loop-holds c =
     let a = c .args in (
@@ -27,17 +26,14 @@ loop-holds c =
           (c .pre .3) (c .pre .4),
     )
 
--- src/classes.rt:87:9
 sub-s : tie.Need-sub-s Inv-loop μ-loop
 sub-s c = omega arith
 
--- src/classes.rt:88:12
 is-state-requires : tie.Need-is-state-requires Inv-loop μ-loop
 is-state-requires c κs =
     let s = c .before .before in
     (s .pre .0 .1, omega (arith, s .pre .1 .few))
 
--- src/classes.rt:89:13
 settle-requires : tie.Need-settle-requires Inv-loop μ-loop
 settle-requires c κs =
     let l = c .before .before .before .before .before in
@@ -50,11 +46,9 @@ settle-requires c κs =
       omega (arith, s .pre .1 .few),
     )
 
--- src/classes.rt:86:5
 loop-less : tie.Need-loop-less Inv-loop μ-loop
 loop-less c = omega arith
 
--- src/classes.rt:86:5
 loop-again : tie.Need-loop-again Inv-loop μ-loop
 loop-again c =
     let i = c .before .before .before .before in
@@ -70,11 +64,9 @@ loop-again c =
           (c .settle .ensures),
     )
 
--- src/classes.rt:86:5
 loop-less-2 : tie.Need-loop-less-2 Inv-loop μ-loop
 loop-less-2 c = omega arith
 
--- src/classes.rt:86:5
 loop-again-2 : tie.Need-loop-again-2 Inv-loop μ-loop
 loop-again-2 c =
     let i = c .before in
@@ -87,7 +79,6 @@ loop-again-2 c =
           (l .loop .s - 1) (rw e at (l .loop .inv .1)) (i .is-state .ensures .no (c .if1 .left)),
     )
 
--- src/classes.rt:71:1
 returns : tie.Need-returns Inv-loop μ-loop
 returns c =
     let l = c .before in

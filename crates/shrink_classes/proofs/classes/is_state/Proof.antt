@@ -6,15 +6,12 @@ use Rattle.shrink_classes.proofs.classes.is_state.Reads as reads
 use Rattle.shrink_classes.proofs.classes.is_state.Lts as lts
 use Rattle.shrink_alike.proofs.index.at.Reads as at-reads
 
--- src/classes.rt:24:9
 returns : tie.Need-returns
 returns c = tells-zero (c .before .args .rows .now) (c .before .args .s) (c .if1 .taken)
 
--- src/classes.rt:26:5
 at-requires : tie.Need-at-requires
 at-requires c κs = search needs
 
--- src/classes.rt:19:1
 returns-2 : tie.Need-returns-2
 returns-2 c =
     let i = c .before in

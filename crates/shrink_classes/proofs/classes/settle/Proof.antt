@@ -14,11 +14,9 @@ use Rattle.shrink_alike.proofs.index.at.Reads as at-reads
 use Rattle.shrink_alike.proofs.same.sign.Reads as sign-reads
 use Rattle.shrink_classes.proofs.slots.find.Reads as find-reads
 
--- src/classes.rt:59:9
 sign-requires : tie.Need-sign-requires
 sign-requires c κs = search needs
 
--- src/classes.rt:60:9
 find-requires : tie.Need-find-requires
 find-requires c κs =
     let g = c .before .before in
@@ -35,47 +33,36 @@ find-requires c κs =
       ),
     )
 
--- src/classes.rt:61:9
 at-requires : tie.Need-at-requires
 at-requires c κs = stop-inside (c .before .find .ensures)
 
--- src/classes.rt:63:21
 cast-slots : tie.Need-cast-slots
 cast-slots c = search needs
 
--- src/classes.rt:63:9
 mul-slots : tie.Need-mul-slots
 mul-slots c = omega (arith, stop-inside (c .before .before .before .find .ensures))
 
--- src/classes.rt:63:9
 element-write-slots : tie.Need-element-write-slots
 element-write-slots c = omega (arith, stop-inside (c .before .before .before .find .ensures))
 
--- src/classes.rt:64:20
 cast-class : tie.Need-cast-class
 cast-class c = search needs
 
--- src/classes.rt:64:9
 mul-class : tie.Need-mul-class
 mul-class c = search needs
 
--- src/classes.rt:64:9
 element-write-class : tie.Need-element-write-class
 element-write-class c = search needs
 
--- src/classes.rt:66:20
 cast-class-2 : tie.Need-cast-class-2
 cast-class-2 c = search needs
 
--- src/classes.rt:66:9
 mul-class-2 : tie.Need-mul-class-2
 mul-class-2 c = search needs
 
--- src/classes.rt:66:9
 element-write-class-2 : tie.Need-element-write-class-2
 element-write-class-2 c = search needs
 
--- src/classes.rt:45:1
 returns : tie.Need-returns
 returns c =
     let h = c .before in
@@ -89,7 +76,6 @@ returns c =
       joined = λ d. absurd (d (sym e ∙ c .if1 .taken));
     }
 
--- src/classes.rt:45:1
 returns-2 : tie.Need-returns-2
 returns-2 c =
     let h = c .before in

@@ -13,33 +13,26 @@ Inv-loop rows into s₀ s = (s ≤ 1023) × Above rows s
 abbrev μ-loop : tie.MeasureT-loop
 μ-loop rows into s₀ s = s
 
--- src/classes.rt:35:5
 loop-holds : tie.Need-loop-holds Inv-loop μ-loop
 loop-holds c = (omega arith, above-all (c .args .rows .now) (c .pre .1))
 
--- src/classes.rt:36:12
 at-requires : tie.Need-at-requires Inv-loop μ-loop
 at-requires c κs = omega arith
 
--- src/classes.rt:37:20
 add-result : tie.Need-add-result Inv-loop μ-loop
 add-result c = omega arith
 
--- src/classes.rt:37:13
 returns : tie.Need-returns Inv-loop μ-loop
 returns c =
     let l = c .before .before .before in
     topped (l .before .args .rows .now) (l .loop .s) (omega arith) (l .loop .inv .1)
 
--- src/classes.rt:39:9
 sub-s : tie.Need-sub-s Inv-loop μ-loop
 sub-s c = omega arith
 
--- src/classes.rt:35:5
 loop-less : tie.Need-loop-less Inv-loop μ-loop
 loop-less c = omega arith
 
--- src/classes.rt:35:5
 loop-again : tie.Need-loop-again Inv-loop μ-loop
 loop-again c =
     let l = c .before .before .before in
@@ -50,7 +43,6 @@ loop-again c =
           (c .before .at .ensures .0) (c .if1 .left) (omega arith) (l .loop .inv .1),
     )
 
--- src/classes.rt:30:1
 returns-2 : tie.Need-returns-2 Inv-loop μ-loop
 returns-2 c =
     let l = c .before in

@@ -19,29 +19,24 @@ Inv-loop mode p0 rows into first class slots s g d₀ at₀ d at = Walks (like m
 abbrev μ-loop : tie.MeasureT-loop
 μ-loop mode p0 rows into first class slots s g d₀ at₀ d at = 1024 - d
 
--- src/slots.rt:59:9
 slot-requires : tie.Need-slot-requires Inv-loop μ-loop
 slot-requires c κs = (c .pre .3, omega arith)
 
--- src/slots.rt:60:5
 loop-holds : tie.Need-loop-holds Inv-loop μ-loop
 loop-holds c =
     let a = c .before .args in
     walk-start (like (a .mode) (coded (a .p0) (a .rows .now)) (mark-in (a .class .now))) (a .slots .now) (a .s)
     (c .before .args .g) (c .slot .result) (c .slot .ensures)
 
--- src/slots.rt:60:11
 passes-requires : tie.Need-passes-requires Inv-loop μ-loop
 passes-requires c κs =
     let s = c .before .before in
     let w = c .loop .inv in
     (s .pre .0, s .pre .1, s .pre .2, omega (arith, w .stands, slot-small (s .args .g) (c .loop .d)))
 
--- src/slots.rt:61:9
 add-d : tie.Need-add-d Inv-loop μ-loop
 add-d c = omega (arith, c .before .before .loop .inv .near)
 
--- src/slots.rt:62:9
 slot-requires-2 : tie.Need-slot-requires-2 Inv-loop μ-loop
 slot-requires-2 c κs =
     let m = c .before in
@@ -49,11 +44,9 @@ slot-requires-2 c κs =
     let s = l .before .before in
     (s .pre .3, omega (arith, walk-near (l .loop .inv) (sym (m .passes .ensures) ∙ c .if1 .taken) (s .pre .1)))
 
--- src/slots.rt:60:5
 loop-less : tie.Need-loop-less Inv-loop μ-loop
 loop-less c = omega (arith, c .before .before .before .loop .inv .near)
 
--- src/slots.rt:60:5
 loop-again : tie.Need-loop-again Inv-loop μ-loop
 loop-again c =
     let t = c .before in
@@ -63,7 +56,6 @@ loop-again c =
     walk-next (l .loop .inv) (sym (m .passes .ensures) ∙ t .if1 .taken) (c .slot2 .result) (s .pre .1)
     (c .slot2 .ensures)
 
--- src/slots.rt:43:1
 returns : tie.Need-returns Inv-loop μ-loop
 returns c =
     let m = c .before in

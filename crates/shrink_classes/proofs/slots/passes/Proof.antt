@@ -10,18 +10,15 @@ use Rattle.shrink_classes.proofs.slots.passes.Lts as lts
 use Rattle.shrink_alike.proofs.index.at.Reads as at-reads
 use Rattle.shrink_alike.proofs.same.like.Reads as like-reads
 
--- src/slots.rt:35:9
 at-requires : tie.Need-at-requires
 at-requires c κs = search needs
 
--- src/slots.rt:37:9
 returns : tie.Need-returns
 returns c =
     let a = c .before .before .args in
     passes-empty (like (a .mode) (coded (a .p0) (a .rows .now)) (mark-in (a .class .now))) (a .slots .now) (a .s)
     (a .at) (c .before .at .result) (c .before .at .ensures .0) (c .if1 .taken)
 
--- src/slots.rt:39:6
 like-requires : tie.Need-like-requires
 like-requires c κs =
     let x = c .before in
@@ -30,7 +27,6 @@ like-requires c κs =
     let l = p .1 .small (x .before .args .at) (p .3) (λ z. c .if1 .left (e ∙ z)) in
     (p .0, omega (arith, p .2, e, l), omega (arith, p .2, e, l))
 
--- src/slots.rt:20:1
 returns-2 : tie.Need-returns-2
 returns-2 c =
     let x = c .before .before in

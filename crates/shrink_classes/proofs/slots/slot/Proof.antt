@@ -8,23 +8,18 @@ use Rattle.shrink_classes.proofs.slots.slot.Tie as tie
 use Rattle.shrink_classes.proofs.slots.slot.Reads as reads
 use Rattle.shrink_classes.proofs.slots.slot.Lts as lts
 
--- src/slots.rt:16:15
 mul-result : tie.Need-mul-result
 mul-result c = search needs
 
--- src/slots.rt:16:15
 add-result : tie.Need-add-result
 add-result c = search needs
 
--- src/slots.rt:16:10
 mul-result-2 : tie.Need-mul-result-2
 mul-result-2 c = omega (arith, step-short (c .args .g) (c .args .d) (c .pre .0) (c .pre .1))
 
--- src/slots.rt:16:6
 add-result-2 : tie.Need-add-result-2
 add-result-2 c = omega (arith, step-short (c .args .g) (c .args .d) (c .pre .0) (c .pre .1))
 
--- src/slots.rt:12:1
 returns : tie.Need-returns
 unfolding slot
 returns c = refl

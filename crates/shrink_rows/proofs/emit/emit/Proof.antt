@@ -34,7 +34,6 @@ Inv-loop rows into first class number top out₀ m₀ o₀ s₀ out m o s = (s �
 abbrev μ-loop : tie.MeasureT-loop
 μ-loop rows into first class number top out₀ m₀ o₀ s₀ out m o s = top - s
 
--- src/emit.rt:112:5
 loop-holds : tie.Need-loop-holds Inv-loop μ-loop
 loop-holds c =
     let a = c .args in (
@@ -44,24 +43,20 @@ loop-holds c =
           (a .out .now),
     )
 
--- src/emit.rt:114:9
 add-s : tie.Need-add-s Inv-loop μ-loop
 add-s c = omega arith
 
--- src/emit.rt:115:12
 is-head-requires : tie.Need-is-head-requires Inv-loop μ-loop
 is-head-requires c κs =
     let l = c .before in
     let s = l .before in
     (s .pre .0 .1, s .pre .1, s .pre .2, omega (arith, s .pre .3 .few), l .loop .inv .1)
 
--- src/emit.rt:116:56
 at-requires : tie.Need-at-requires Inv-loop μ-loop
 at-requires c κs =
     let s = c .before .before .before .before in
     omega (arith, s .pre .3 .few)
 
--- src/emit.rt:116:13
 emit-state-requires : tie.Need-emit-state-requires Inv-loop μ-loop
 emit-state-requires c κs =
     let h = c .before in
@@ -85,7 +80,6 @@ emit-state-requires c κs =
       omega (arith, l .loop .inv .2 .sized, s .pre .5),
     )
 
--- src/emit.rt:117:13
 add-m : tie.Need-add-m Inv-loop μ-loop
 add-m c =
     let l = c .before .before .before .before .before .before .before in
@@ -95,11 +89,9 @@ add-m c =
     let p = place-low (heads-of (mark-in (a .class .now)) t) (heads-rise t (a .class .now)) (l .loop .s) in
     omega (arith, l .loop .inv .1, p, s .pre .3 .few)
 
--- src/emit.rt:112:5
 loop-less : tie.Need-loop-less Inv-loop μ-loop
 loop-less c = omega arith
 
--- src/emit.rt:112:5
 loop-again : tie.Need-loop-again Inv-loop μ-loop
 loop-again c =
     let h = c .before .before .before in
@@ -121,11 +113,9 @@ loop-again c =
           (c .before .emit-state .ensures),
     )
 
--- src/emit.rt:112:5
 loop-less-2 : tie.Need-loop-less-2 Inv-loop μ-loop
 loop-less-2 c = omega arith
 
--- src/emit.rt:112:5
 loop-again-2 : tie.Need-loop-again-2 Inv-loop μ-loop
 loop-again-2 c =
     let i = c .before in
@@ -142,11 +132,9 @@ loop-again-2 c =
           (l .loop .inv .2),
     )
 
--- src/emit.rt:94:1
 same-length : tie.Need-same-length Inv-loop μ-loop
 same-length c = c .before .loop .inv .2 .sized
 
--- src/emit.rt:94:1
 returns : tie.Need-returns Inv-loop μ-loop
 returns c =
     let l = c .before in

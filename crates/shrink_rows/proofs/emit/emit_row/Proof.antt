@@ -21,11 +21,9 @@ use Rattle.rows.proofs.numbers.terminal_at.Reads as terminal-at-reads
 use Rattle.shrink_alike.proofs.index.at.Reads as at-reads
 use Rattle.shrink_alike.proofs.same.to_mark.Reads as to-mark-reads
 
--- src/emit.rt:38:32
 to-mark-requires : tie.Need-to-mark-requires
 to-mark-requires c κs = search needs
 
--- src/emit.rt:38:9
 at-requires : tie.Need-at-requires
 at-requires c κs =
     let s = c .before in
@@ -38,87 +36,67 @@ at-requires c κs =
           (row-in ns (a .i) (s .pre .3))),
     )
 
--- src/emit.rt:39:14
 mul-at : tie.Need-mul-at
 mul-at c = search needs
 
--- src/emit.rt:40:15
 number-of-requires : tie.Need-number-of-requires
 number-of-requires c κs = search needs
 
--- src/emit.rt:40:5
 mul-out : tie.Need-mul-out
 mul-out c = search needs
 
--- src/emit.rt:40:5
 slice-set-from-out : tie.Need-slice-set-from-out
 slice-set-from-out c = search needs
 
--- src/emit.rt:41:38
 terminal-at-requires : tie.Need-terminal-at-requires
 terminal-at-requires c κs = search needs
 
--- src/emit.rt:41:19
 number-of-requires-2 : tie.Need-number-of-requires-2
 number-of-requires-2 c κs =
     let s = c .before .before .before .before in
     omega (arith, c .terminal-at .ensures, fit-at (s .pre .0) (s .args .i) (s .pre .3) .terminal)
 
--- src/emit.rt:41:9
 add-out : tie.Need-add-out
 add-out c = search needs
 
--- src/emit.rt:41:5
 mul-out-2 : tie.Need-mul-out-2
 mul-out-2 c = search needs
 
--- src/emit.rt:41:5
 slice-set-from-out-2 : tie.Need-slice-set-from-out-2
 slice-set-from-out-2 c = simp length-set (omega arith)
 
--- src/emit.rt:42:19
 number-of-requires-3 : tie.Need-number-of-requires-3
 number-of-requires-3 c κs = search needs
 
--- src/emit.rt:42:9
 add-out-2 : tie.Need-add-out-2
 add-out-2 c = search needs
 
--- src/emit.rt:42:5
 mul-out-3 : tie.Need-mul-out-3
 mul-out-3 c = search needs
 
--- src/emit.rt:42:5
 slice-set-from-out-3 : tie.Need-slice-set-from-out-3
 slice-set-from-out-3 c = simp length-set (omega arith)
 
--- src/emit.rt:43:42
 code-at-requires : tie.Need-code-at-requires
 code-at-requires c κs = search needs
 
--- src/emit.rt:43:19
 production-of-requires : tie.Need-production-of-requires
 production-of-requires c κs =
     let s = c .before .before .before .before .before .before .before in
     omega (arith, c .code-at .ensures, fit-at (s .pre .0) (s .args .i) (s .pre .3) .production)
 
--- src/emit.rt:43:9
 add-t14 : tie.Need-add-t14
 add-t14 c = search needs
 
--- src/emit.rt:43:5
 mul-t13 : tie.Need-mul-t13
 mul-t13 c = search needs
 
--- src/emit.rt:43:5
 slice-set-from-out-4 : tie.Need-slice-set-from-out-4
 slice-set-from-out-4 c = simp length-set (omega arith)
 
--- src/emit.rt:24:1
 same-length : tie.Need-same-length
 same-length c = search needs
 
--- src/emit.rt:24:1
 returns : tie.Need-returns
 returns c =
     let k = c .before in

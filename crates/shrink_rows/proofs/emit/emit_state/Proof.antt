@@ -19,11 +19,9 @@ Inv-loop rows first class number h f at out₀ i₀ o₀ out i o = Emitting rows
 abbrev μ-loop : tie.MeasureT-loop
 μ-loop rows first class number h f at out₀ i₀ o₀ out i o = length rows / 4 - i
 
--- src/emit.rt:63:9
 at-requires : tie.Need-at-requires Inv-loop μ-loop
 at-requires c κs = c .pre .3
 
--- src/emit.rt:65:5
 loop-holds : tie.Need-loop-holds Inv-loop μ-loop
 loop-holds c =
     let s = c .before in
@@ -31,11 +29,9 @@ loop-holds c =
     emit-start (a .rows .now) (a .class .now) (a .number .now) (a .h) (a .f) (a .out .now) (a .at) (c .at .result)
     (walk-begins (s .pre .0) (a .h) (c .at .result) (s .pre .3) (c .at .ensures .0))
 
--- src/emit.rt:65:11
 leaves-requires : tie.Need-leaves-requires Inv-loop μ-loop
 leaves-requires c κs = search needs
 
--- src/emit.rt:66:9
 emit-row-requires : tie.Need-emit-row-requires Inv-loop μ-loop
 emit-row-requires c κs =
     let t = c .before in
@@ -54,7 +50,6 @@ emit-row-requires c κs =
       omega (arith, r, s .pre .5, s .pre .6, l .loop .inv .written .sized),
     )
 
--- src/emit.rt:67:9
 add-i : tie.Need-add-i Inv-loop μ-loop
 add-i c =
     let t = c .before .before .before in
@@ -64,7 +59,6 @@ add-i c =
     let e = sym (t .before .leaves .ensures) ∙ t .if1 .taken in
     omega (arith, leaves-yes (a .rows .now) (a .h) (l .loop .i) e .0, s .pre .0 .few)
 
--- src/emit.rt:68:9
 add-o : tie.Need-add-o Inv-loop μ-loop
 add-o c =
     let t = c .before .before .before in
@@ -77,7 +71,6 @@ add-o c =
     (l .loop .o) (l .loop .i) (l .loop .inv) e (s .pre .2) in
     omega (arith, r, s .pre .5)
 
--- src/emit.rt:65:5
 loop-less : tie.Need-loop-less Inv-loop μ-loop
 loop-less c =
     let t = c .before .before .before in
@@ -87,7 +80,6 @@ loop-less c =
     let e = sym (t .before .leaves .ensures) ∙ t .if1 .taken in
     omega (arith, leaves-yes (a .rows .now) (a .h) (l .loop .i) e .0)
 
--- src/emit.rt:65:5
 loop-again : tie.Need-loop-again Inv-loop μ-loop
 loop-again c =
     let t = c .before .before .before in
@@ -99,13 +91,11 @@ loop-again c =
     (l .loop .o) (l .loop .i) (l .loop .inv) e (s .pre .2) _
     (stand-next (l .loop .inv .stands) (s .pre .0 .passed) e) (c .before .emit-row .ensures)
 
--- src/emit.rt:47:1
 same-length : tie.Need-same-length Inv-loop μ-loop
 same-length c =
     let l = c .before .before in
     l .loop .inv .written .sized
 
--- src/emit.rt:47:1
 returns : tie.Need-returns Inv-loop μ-loop
 returns c =
     let l = c .before .before in

@@ -18,22 +18,18 @@ use Rattle.shrink_rows.proofs.emit.is_head.Lts as lts
 use Rattle.shrink_classes.proofs.classes.is_state.Reads as is-state-reads
 use Rattle.shrink_alike.proofs.index.at.Reads as at-reads
 
--- src/emit.rt:87:9
 is-state-requires : tie.Need-is-state-requires
 is-state-requires c κs = search needs
 
--- src/emit.rt:88:9
 returns : tie.Need-returns
 returns c =
     let i = c .before in
     let a = i .before .args in
     no-head (coded 0 (a .rows .now)) (a .class .now) (a .s) (i .is-state .ensures .no (not-true _ (c .if1 .taken)))
 
--- src/emit.rt:90:23
 at-requires : tie.Need-at-requires
 at-requires c κs = search needs
 
--- src/emit.rt:90:5
 at-requires-2 : tie.Need-at-requires-2
 at-requires-2 c κs =
     let i = c .before .before in
@@ -41,7 +37,6 @@ at-requires-2 c κs =
     let l = s .pre .1 .small (s .args .s) (i .is-state .ensures .yes (not-false _ (c .before .if1 .left))) in
     omega (arith, c .at .ensures .0, l)
 
--- src/emit.rt:74:1
 returns-2 : tie.Need-returns-2
 returns-2 c =
     let h = c .before in

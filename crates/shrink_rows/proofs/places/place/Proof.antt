@@ -10,15 +10,12 @@ use Rattle.shrink_rows.proofs.places.place.Reads as reads
 use Rattle.shrink_rows.proofs.places.place.Lts as lts
 use Rattle.shrink_alike.proofs.index.at.Reads as at-reads
 
--- src/places.rt:20:9
 at-requires : tie.Need-at-requires
 at-requires c κs = search needs
 
--- src/places.rt:21:8
 at-requires-2 : tie.Need-at-requires-2
 at-requires-2 c κs = search needs
 
--- src/places.rt:22:9
 returns : tie.Need-returns
 returns c =
     let x = c .before in
@@ -27,23 +24,18 @@ returns c =
     place-held (a .number .now) (mark-in (a .class .now) (a .s)) (a .m) (x .at2 .result)
     (x .at2 .ensures .0 ∙ ap (λ (z : ℕ). getD (a .number .now) z 0) (h .at .ensures .0)) (c .if1 .taken)
 
--- src/places.rt:24:17
 cast-number : tie.Need-cast-number
 cast-number c = search needs
 
--- src/places.rt:24:5
 mul-number : tie.Need-mul-number
 mul-number c = search needs
 
--- src/places.rt:24:5
 element-write-number : tie.Need-element-write-number
 element-write-number c = search needs
 
--- src/places.rt:25:5
 add-result : tie.Need-add-result
 add-result c = search needs
 
--- src/places.rt:16:1
 returns-2 : tie.Need-returns-2
 returns-2 c =
     let x = c .before in

@@ -17,7 +17,6 @@ Inv-loop rows into class top number₀ m₀ s₀ number m s = (s ≤ top) × Cou
 abbrev μ-loop : tie.MeasureT-loop
 μ-loop rows into class top number₀ m₀ s₀ number m s = top - s
 
--- src/places.rt:43:5
 loop-holds : tie.Need-loop-holds Inv-loop μ-loop
 loop-holds c = (
   omega arith,
@@ -25,17 +24,14 @@ loop-holds c = (
       (c .pre .3),
 )
 
--- src/places.rt:45:9
 add-s : tie.Need-add-s Inv-loop μ-loop
 add-s c = omega arith
 
--- src/places.rt:46:12
 is-state-requires : tie.Need-is-state-requires Inv-loop μ-loop
 is-state-requires c κs =
     let s = c .before .before in
     (s .pre .0, omega (arith, s .pre .1 .few))
 
--- src/places.rt:47:13
 place-requires : tie.Need-place-requires Inv-loop μ-loop
 place-requires c κs =
     let i = c .before .before in
@@ -49,11 +45,9 @@ place-requires c κs =
       omega (arith, l .loop .inv .1 .count, p, s .pre .1 .few),
     )
 
--- src/places.rt:43:5
 loop-less : tie.Need-loop-less Inv-loop μ-loop
 loop-less c = omega arith
 
--- src/places.rt:43:5
 loop-again : tie.Need-loop-again Inv-loop μ-loop
 loop-again c =
     let i = c .before .before .before in
@@ -67,11 +61,9 @@ loop-again c =
           (i .is-state .ensures .yes (c .before .before .if1 .taken)) (c .place .ensures),
     )
 
--- src/places.rt:43:5
 loop-less-2 : tie.Need-loop-less-2 Inv-loop μ-loop
 loop-less-2 c = omega arith
 
--- src/places.rt:43:5
 loop-again-2 : tie.Need-loop-again-2 Inv-loop μ-loop
 loop-again-2 c =
     let i = c .before in
@@ -83,7 +75,6 @@ loop-again-2 c =
           (i .is-state .ensures .no (c .if1 .left)),
     )
 
--- src/places.rt:29:1
 returns : tie.Need-returns Inv-loop μ-loop
 returns c =
     let l = c .before in
