@@ -1,68 +1,67 @@
--- A line's answer, from those of its pieces one after another. Assumes nothing.
-use Prim.Native.Nat.{ℕ}
-use mathlib.Core.Path.{_≡_}
-use mathlib.Core.Bool.{true, false}
+-- A line read piece by piece: what its answer comes down to at the place that is reached. Assumes nothing.
+use Prim.Native.Nat.{ℕ, _≤_}
+use mathlib.Core.Path.{_≡_, refl}
+use mathlib.Core.Bool.{cond}
 use mathlib.Core.List.{List, [], _∷_}
+use native.Mathlib.Omega.{arith}
+use lib.ListN.{length}
 use Rattle.paper.specs.Words.{bytes}
 use Rattle.text_lines.specs.declared.pieces.Number.the-variants as number
+use Rattle.text_lines.specs.declared.reading.RowLine.{RowLine}
 use Rattle.text_lines.specs.declared.reading.RowLine.the-variants as row-line
+use Rattle.text_lines.specs.declared.reading.HeadLine.{HeadLine}
 use Rattle.text_lines.specs.declared.reading.HeadLine.the-variants as head-line
 use Rattle.text_lines.specs.Pieces.{field-at, last-at, ends-at}
-use Rattle.text_lines.specs.Reading.{row-of, head-of}
+use Rattle.text_lines.specs.Reading.{on-is, row-of, head-of}
+use Rattle.text_lines.proofs.Forms.{field-within, last-within}
 
 -- the words of lines
-abbrev pub trans : List ℕ
+abbrev trans : List ℕ
 trans = 84 ∷ 114 ∷ 97 ∷ 110 ∷ 115 ∷ 40 ∷ []
 
-abbrev pub dfa : List ℕ
+abbrev dfa : List ℕ
 dfa = 68 ∷ 102 ∷ 97 ∷ 40 ∷ []
 
-abbrev pub comma : List ℕ
+abbrev comma : List ℕ
 comma = 44 ∷ 32 ∷ []
 
+-- a line's answer is that of what is left of it from a place on
+pub record Left {A : Type 0} (whole : A) (l : List ℕ) (at : ℕ) (rest : A) : Type 0 where
+  pub inside : at ≤ length l
+  pub same : rest ≡ whole
+
+module _ {A : Type 0} {whole : A} {l : List ℕ} {at v n : ℕ} (bad : A) (k : ℕ → ℕ → A) (w : List ℕ) where
+  pub field-read : Left whole l at (on-is (field-at l at w) bad k) → field-at l at w ≡ number.Is v n → Left whole l n (k v n)
+  field-read r e = record { inside = field-within l at w v n (r .inside) e .inside; same = rw e at (r .same) }
+
+  pub last-read : Left whole l at (on-is (last-at l at w) bad k) → last-at l at w ≡ number.Is v n → Left whole l n (k v n)
+  last-read r e = record { inside = last-within l at w v n (r .inside) e .inside; same = rw e at (r .same) }
+
+-- what is left of a row's line after four of its numbers, three, two, one and none
 module _ (l : List ℕ) (next : ℕ) where
-  pub row-first : field-at l 0 trans ≡ number.Bad → row-line.Bad ≡ row-of l next
+  abbrev pub row-4 : ℕ → ℕ → ℕ → ℕ → ℕ → RowLine
+  row-4 f t g p d = cond (ends-at l d (41 ∷ 44 ∷ [])) (row-line.Row f t g p next) row-line.Bad
+
+  abbrev pub row-3 : ℕ → ℕ → ℕ → ℕ → RowLine
+  row-3 f t g c = on-is (last-at l c comma) row-line.Bad (row-4 f t g)
+
+  abbrev pub row-2 : ℕ → ℕ → ℕ → RowLine
+  row-2 f t b = on-is (field-at l b comma) row-line.Bad (row-3 f t)
+
+  abbrev pub row-1 : ℕ → ℕ → RowLine
+  row-1 f a = on-is (field-at l a comma) row-line.Bad (row-2 f)
+
+  pub row-0 : Left (row-of l next) l 0 (on-is (field-at l 0 trans) row-line.Bad row-1)
   unfolding row-of bytes
-  row-first e = rw e
+  row-0 = record { inside = omega arith; same = refl }
 
-  module _ {f a : ℕ} (e₁ : field-at l 0 trans ≡ number.Is f a) where
-    pub row-second : field-at l a comma ≡ number.Bad → row-line.Bad ≡ row-of l next
-    unfolding row-of bytes
-    row-second e = rw (e₁, e)
+  -- and of the head's after two, one and none
+  abbrev pub head-2 : ℕ → ℕ → ℕ → HeadLine
+  head-2 p k b = cond (ends-at l b (41 ∷ [])) (head-line.Head p k next) head-line.Bad
 
-    module _ {t b : ℕ} (e₂ : field-at l a comma ≡ number.Is t b) where
-      pub row-third : field-at l b comma ≡ number.Bad → row-line.Bad ≡ row-of l next
-      unfolding row-of bytes
-      row-third e = rw (e₁, e₂, e)
+  abbrev pub head-1 : ℕ → ℕ → HeadLine
+  head-1 p a = on-is (field-at l a comma) head-line.Bad (head-2 p)
 
-      module _ {g c : ℕ} (e₃ : field-at l b comma ≡ number.Is g c) where
-        pub row-fourth : last-at l c comma ≡ number.Bad → row-line.Bad ≡ row-of l next
-        unfolding row-of bytes
-        row-fourth e = rw (e₁, e₂, e₃, e)
-
-        module _ {p d : ℕ} (e₄ : last-at l c comma ≡ number.Is p d) where
-          pub row-unended : ends-at l d (41 ∷ 44 ∷ []) ≡ false → row-line.Bad ≡ row-of l next
-          unfolding row-of bytes
-          row-unended e = rw (e₁, e₂, e₃, e₄, e)
-
-          pub row-whole : ends-at l d (41 ∷ 44 ∷ []) ≡ true → row-line.Row f t g p next ≡ row-of l next
-          unfolding row-of bytes
-          row-whole e = rw (e₁, e₂, e₃, e₄, e)
-
-  pub head-first : last-at l 0 dfa ≡ number.Bad → head-line.Bad ≡ head-of l next
+  pub head-0 : Left (head-of l next) l 0 (on-is (last-at l 0 dfa) head-line.Bad head-1)
   unfolding head-of bytes
-  head-first e = rw e
-
-  module _ {p a : ℕ} (e₁ : last-at l 0 dfa ≡ number.Is p a) where
-    pub head-second : field-at l a comma ≡ number.Bad → head-line.Bad ≡ head-of l next
-    unfolding head-of bytes
-    head-second e = rw (e₁, e)
-
-    module _ {k b : ℕ} (e₂ : field-at l a comma ≡ number.Is k b) where
-      pub head-unended : ends-at l b (41 ∷ []) ≡ false → head-line.Bad ≡ head-of l next
-      unfolding head-of bytes
-      head-unended e = rw (e₁, e₂, e)
-
-      pub head-whole : ends-at l b (41 ∷ []) ≡ true → head-line.Head p k next ≡ head-of l next
-      unfolding head-of bytes
-      head-whole e = rw (e₁, e₂, e)
+  head-0 = record { inside = omega arith; same = refl }
