@@ -1,7 +1,11 @@
-use mathlib.Core.Path.{sym, _∙_}
-use Prim.Native.Nat.{_-_, _/_}
+use mathlib.Core.Path.{_≡_, sym, _∙_}
+use mathlib.Core.Bool.{true}
+use Prim.Native.Nat.{_+_, _-_, _/_, _<_}
 use native.Mathlib.Omega.{arith}
 use lib.ListN.{length}
+use Rattle.paper.specs.Rows.{rows-in}
+use Rattle.paper.specs.Shrink.{rows-of}
+use Rattle.shrink_alike.specs.Index.{leaves}
 use Rattle.shrink_alike.proofs.Begins.{walk-begins, stand-next, leaves-yes}
 use Rattle.shrink_rows.proofs.Emitting.{Emitting, emit-start, emit-room, emit-next, emit-end}
 use borrow.Author.Needs.{needs}
@@ -32,20 +36,35 @@ loop-holds c =
 leaves-requires : tie.Need-leaves-requires Inv-loop μ-loop
 leaves-requires c κs = search needs
 
+-- row i leaves the state
+stays : (t : tie.Then1 Inv-loop μ-loop) → let l = t .before .before in
+    let a = l .before .before .args in
+    leaves (a .rows .now) (a .h) (l .loop .i) ≡ true
+stays t = sym (t .before .leaves .ensures) ∙ t .if1 .taken
+
+-- so it lies in the table, and there is room for it
+inside : (t : tie.Then1 Inv-loop μ-loop) → let l = t .before .before in
+    let a = l .before .before .args in
+    (l .loop .i < length (a .rows .now) / 4) × (l .loop .o < a .at + length (rows-of (rows-in (a .rows .now)) (a .h)))
+inside t =
+    let l = t .before .before in
+    let s = l .before .before in
+    let a = s .args in (
+      leaves-yes (a .rows .now) (a .h) (l .loop .i) (stays t) .0,
+      emit-room (a .rows .now) (a .class .now) (a .number .now) (a .h) (a .f) (a .out .now) (l .loop .out) (a .at)
+          (l .loop .o) (l .loop .i) (l .loop .inv) (stays t) (s .pre .2),
+    )
+
 emit-row-requires : tie.Need-emit-row-requires Inv-loop μ-loop
 emit-row-requires c κs =
     let t = c .before in
     let l = t .before .before in
     let s = l .before .before in
-    let a = s .args in
-    let e = sym (t .before .leaves .ensures) ∙ t .if1 .taken in
-    let r = emit-room (a .rows .now) (a .class .now) (a .number .now) (a .h) (a .f) (a .out .now) (l .loop .out)
-    (a .at)
-    (l .loop .o) (l .loop .i) (l .loop .inv) e (s .pre .2) in (
+    let r = inside t .1 in (
       s .pre .0 .passed,
       s .pre .1,
       s .pre .4,
-      leaves-yes (a .rows .now) (a .h) (l .loop .i) e .0,
+      inside t .0,
       omega (arith, r, s .pre .5),
       omega (arith, r, s .pre .5, s .pre .6, l .loop .inv .written .sized),
     )
@@ -53,32 +72,15 @@ emit-row-requires c κs =
 add-i : tie.Need-add-i Inv-loop μ-loop
 add-i c =
     let t = c .before .before .before in
-    let l = t .before .before in
-    let s = l .before .before in
-    let a = s .args in
-    let e = sym (t .before .leaves .ensures) ∙ t .if1 .taken in
-    omega (arith, leaves-yes (a .rows .now) (a .h) (l .loop .i) e .0, s .pre .0 .few)
+    omega (arith, inside t .0, t .before .before .before .before .pre .0 .few)
 
 add-o : tie.Need-add-o Inv-loop μ-loop
 add-o c =
     let t = c .before .before .before in
-    let l = t .before .before in
-    let s = l .before .before in
-    let a = s .args in
-    let e = sym (t .before .leaves .ensures) ∙ t .if1 .taken in
-    let r = emit-room (a .rows .now) (a .class .now) (a .number .now) (a .h) (a .f) (a .out .now) (l .loop .out)
-    (a .at)
-    (l .loop .o) (l .loop .i) (l .loop .inv) e (s .pre .2) in
-    omega (arith, r, s .pre .5)
+    omega (arith, inside t .1, t .before .before .before .before .pre .5)
 
 loop-less : tie.Need-loop-less Inv-loop μ-loop
-loop-less c =
-    let t = c .before .before .before in
-    let l = t .before .before in
-    let s = l .before .before in
-    let a = s .args in
-    let e = sym (t .before .leaves .ensures) ∙ t .if1 .taken in
-    omega (arith, leaves-yes (a .rows .now) (a .h) (l .loop .i) e .0)
+loop-less c = omega (arith, inside (c .before .before .before) .0)
 
 loop-again : tie.Need-loop-again Inv-loop μ-loop
 loop-again c =
@@ -86,10 +88,9 @@ loop-again c =
     let l = t .before .before in
     let s = l .before .before in
     let a = s .args in
-    let e = sym (t .before .leaves .ensures) ∙ t .if1 .taken in
     emit-next (a .rows .now) (a .class .now) (a .number .now) (a .h) (a .f) (a .out .now) (l .loop .out) (a .at)
-    (l .loop .o) (l .loop .i) (l .loop .inv) e (s .pre .2) _
-    (stand-next (l .loop .inv .stands) (s .pre .0 .passed) e) (c .before .emit-row .ensures)
+    (l .loop .o) (l .loop .i) (l .loop .inv) (stays t) (s .pre .2) _
+    (stand-next (l .loop .inv .stands) (s .pre .0 .passed) (stays t)) (c .before .emit-row .ensures)
 
 same-length : tie.Need-same-length Inv-loop μ-loop
 same-length c =
