@@ -6,6 +6,8 @@ use native.Mathlib.Omega.{arith}
 use borrow.Author.Needs.{needs}
 use lib.ListN.{length}
 use Rattle.rows.proofs.Fits.{Fit, fit}
+use Rattle.text_lines.specs.declared.reading.RowLine.the-variants.{Row}
+use Rattle.text_lines.specs.Reading.{row-from}
 use Rattle.text_laws.specs.Put.{put}
 use Rattle.text_in.specs.Tally.{numbers-from, Ready}
 use Rattle.text_laws.proofs.Put.{put-nil, put-length}
@@ -52,17 +54,26 @@ returns c =
     no-bad (a .text .now) (b .loop .place) _ (omega arith) (b .loop .inv .3)
     (sym (r .row-from .ensures) ∙ c .enum-told .given .1)
 
+-- the row that was read
+read : (v : tie.After-from Inv-loop μ-loop) → let b = v .before .before .before .before in
+    let g = v .from .given .0 in
+    row-from (b .before .before .args .text .now) (b .loop .place)
+    ≡ Row (g .0) (g .1 .0) (g .1 .1 .0) (g .1 .1 .1 .0) (g .1 .1 .1 .1 .0)
+read v = sym (v .before .before .row-from .ensures) ∙ v .from .given .1
+
+-- there is room for it
+room : (v : tie.After-from Inv-loop μ-loop) → let b = v .before .before .before .before in
+    4 ≤ length (b .loop .out) - b .loop .i
+room v =
+    let b = v .before .before .before .before in
+    row-room _ _ _ (omega arith) (b .loop .inv .3) _ _ _ _ _ (read v)
+
 put-numbers-requires : tie.Need-put-numbers-requires Inv-loop μ-loop
 put-numbers-requires c κs =
     let v = c .before .before in
-    let r = v .before .before in
-    let b = r .before .before in
-    let t = b .before .before .args .text .now in
-    let p = b .loop .place in
-    let ready = b .loop .inv .3 in
-    let e = sym (r .row-from .ensures) ∙ v .from .given .1 in
-    let room = row-room t p _ (omega arith) ready _ _ _ _ _ e in
-    let f : Fit _ = fit _ (row-fit t p _ (omega arith) ready _ _ _ _ _ e) in (
+    let b = v .before .before .before .before in
+    let r = room v in
+    let f : Fit _ = fit _ (row-fit _ _ _ (omega arith) (b .loop .inv .3) _ _ _ _ _ (read v)) in (
       omega arith,
       omega (arith, f .from),
       f .terminal,
@@ -72,36 +83,22 @@ put-numbers-requires c κs =
     )
 
 add-i : tie.Need-add-i Inv-loop μ-loop
-add-i c =
-    let v = c .before .before .before .before in
-    let r = v .before .before in
-    let b = r .before .before in
-    let t = b .before .before .args .text .now in
-    let e = sym (r .row-from .ensures) ∙ v .from .given .1 in
-    let room = row-room t (b .loop .place) _ (omega arith) (b .loop .inv .3) _ _ _ _ _ e in
-    omega arith
+add-i c = omega (arith, room (c .before .before .before .before))
 
 loop-less : tie.Need-loop-less Inv-loop μ-loop
 loop-less c =
-    let v = c .before .before .before .before in
-    let r = v .before .before in
-    let b = r .before .before in
-    let t = b .before .before .args .text .now in
-    let h = row-from-at t (b .loop .place) _ _ _ _ _ (sym (r .row-from .ensures) ∙ v .from .given .1) in
+    let h = row-from-at _ _ _ _ _ _ _ (read (c .before .before .before .before)) in
     omega (arith, h .later, h .inside)
 
 loop-again : tie.Need-loop-again Inv-loop μ-loop
 loop-again c =
     let w = c .before in
     let v = w .before .before .before in
-    let r = v .before .before in
-    let b = r .before .before in
-    let t = b .before .before .args .text .now in
-    let p = b .loop .place in
+    let b = v .before .before .before .before in
     let ready = b .loop .inv .3 in
-    let e = sym (r .row-from .ensures) ∙ v .from .given .1 in
-    let h = row-from-at t p _ _ _ _ _ e in
-    let room = row-room t p _ (omega arith) ready _ _ _ _ _ e in
+    let e = read v in
+    let h = row-from-at _ _ _ _ _ _ _ e in
+    let r = room v in
     let q = w .put-numbers .ensures in
     let n : length (w .put-numbers .last .0) ≡ length (b .loop .out) =
     ap length q ∙ put-length (b .loop .out) (b .loop .i) _ (omega arith) in
@@ -110,8 +107,8 @@ loop-again c =
       h .inside,
       omega arith,
       omega arith,
-      rw (← m) (next-ready t p _ (omega arith) ready _ _ _ _ _ e),
-      next-put t p _ (omega arith) ready _ _ _ _ _ e (b .loop .out) _ (b .loop .i) (omega arith) q ∙ b .loop .inv .4,
+      rw (← m) (next-ready _ _ _ (omega arith) ready _ _ _ _ _ e),
+      next-put _ _ _ (omega arith) ready _ _ _ _ _ e (b .loop .out) _ (b .loop .i) (omega arith) q ∙ b .loop .inv .4,
     )
 
 same-length-2 : tie.Need-same-length-2 Inv-loop μ-loop

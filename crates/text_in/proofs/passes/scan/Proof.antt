@@ -5,6 +5,8 @@ use mathlib.Core.Path.{_≡_, refl, ap, sym, _∙_}
 use native.Mathlib.Omega.{arith}
 use borrow.Author.Needs.{needs}
 use lib.ListN.{length}
+use Rattle.text_lines.specs.declared.reading.RowLine.the-variants.{Row}
+use Rattle.text_lines.specs.Reading.{row-from}
 use Rattle.text_in.specs.declared.passes.Tally.{Tally}
 use Rattle.text_in.specs.Tally.{tally-from, tallied}
 use Rattle.text_lines.proofs.Small.{row-from-at}
@@ -39,40 +41,35 @@ returns c =
     let e = sym (r .row-from .ensures) ∙ c .enum-told .given .1 in
     sym (b .loop .inv .2 ∙ tally-bad (a .text .now) (b .loop .place) (b .loop .tally) (omega arith) e)
 
+-- the row that was read
+read : (v : tie.After-from Inv-loop μ-loop) → let b = v .before .before .before .before in
+    let g = v .from .given .0 in
+    row-from (b .before .before .args .text .now) (b .loop .place)
+    ≡ Row (g .0) (g .1 .0) (g .1 .1 .0) (g .1 .1 .1 .0) (g .1 .1 .1 .1 .0)
+read v = sym (v .before .before .row-from .ensures) ∙ v .from .given .1
+
 tallied-requires : tie.Need-tallied-requires Inv-loop μ-loop
 tallied-requires c κs =
-    let v = c .before in
-    let r = v .before .before in
-    let b = r .before .before in
-    let a = b .before .before .args in
-    let e = sym (r .row-from .ensures) ∙ v .from .given .1 in
-    let h = row-from-at (a .text .now) (b .loop .place) _ _ _ _ _ e in
+    let h = row-from-at _ _ _ _ _ _ _ (read (c .before)) in
     (omega arith, h .small .from, h .small .on)
 
 loop-less : tie.Need-loop-less Inv-loop μ-loop
 loop-less c =
-    let v = c .before .before in
-    let r = v .before .before in
-    let b = r .before .before in
-    let a = b .before .before .args in
-    let e = sym (r .row-from .ensures) ∙ v .from .given .1 in
-    let h = row-from-at (a .text .now) (b .loop .place) _ _ _ _ _ e in
+    let h = row-from-at _ _ _ _ _ _ _ (read (c .before .before)) in
     omega (arith, h .later, h .inside)
 
 loop-again : tie.Need-loop-again Inv-loop μ-loop
 loop-again c =
     let v = c .before .before in
-    let r = v .before .before in
-    let b = r .before .before in
-    let a = b .before .before .args in
-    let e = sym (r .row-from .ensures) ∙ v .from .given .1 in
-    let h = row-from-at (a .text .now) (b .loop .place) _ _ _ _ _ e in
+    let b = v .before .before .before .before in
+    let e = read v in
+    let h = row-from-at _ _ _ _ _ _ _ e in
     let q : c .tallied .result .rows ≡ b .loop .tally .rows + 1 =
     ap (λ (s : Tally). s .rows) (c .tallied .ensures) ∙ tallied-rows (b .loop .tally) _ in (
       h .inside,
       omega (arith, h .later),
       b .loop .inv .2
-          ∙ tally-row (a .text .now) (b .loop .place) _ _ _ _ _ (omega arith) e (b .loop .tally)
+          ∙ tally-row _ _ _ _ _ _ _ (omega arith) e (b .loop .tally)
           ∙ rw (← c .tallied .ensures),
     )
 
