@@ -34,7 +34,8 @@ use Rattle.merging.proofs.Ruled.{row-production}
 use Rattle.merging.proofs.Shrunk.{shrunk-by-marks}
 use Rattle.shrink_alike.specs.Faces.{coded, mark-in}
 use Rattle.shrink_classes.specs.Classes.{Classes}
-use Rattle.shrink_rows.specs.Output.{Named, Written, all-rows, Shrunk, Sound}
+use Rattle.shrink_places.specs.Numbers.{Named}
+use Rattle.shrink_rows.specs.Output.{Written, all-rows, Shrunk, Sound}
 use Rattle.rows.proofs.Codes.{uncoded-code}
 use Rattle.shrink_classes.proofs.Entered.{state-small}
 use Rattle.shrink_classes.proofs.Marking.{class-marks, class-state, class-source}

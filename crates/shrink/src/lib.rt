@@ -7,7 +7,6 @@ use rows::verdict::Verdict;
 use shrink_alike::index;
 use shrink_classes::classes;
 use shrink_rows::emit;
-use shrink_rows::places;
 ghost use mathlib.Core.Path.{_≡_};
 ghost use mathlib.Core.Bool.{false};
 ghost use Prim.Native.Nat.{_≤_};
@@ -19,7 +18,8 @@ ghost use Rattle.paper.specs.Shrink.{shrink, shrunk};
 ghost use Rattle.shrink_alike.specs.Index.{Indexed};
 ghost use Rattle.shrink_alike.specs.Faces.{coded};
 ghost use Rattle.shrink_classes.specs.Classes.{Topped};
-ghost use Rattle.shrink_rows.specs.Output.{Named, Wrote, Shrunk, Sound};
+ghost use Rattle.shrink_places.specs.Numbers.{Named};
+ghost use Rattle.shrink_rows.specs.Output.{Wrote, Shrunk, Sound};
 
 // How many rows and states a shrunk table has.
 struct Sizes {
@@ -42,7 +42,7 @@ fn write(
         (r .rows) (r .states) ⌝ }
 {
     let mut number = [65535u16; 1024];
-    let states = places::places(rows, into, class, top, &mut number);
+    let states = shrink_places::places(rows, into, class, top, &mut number);
     let count = emit::emit(rows, into, first, class, &number, top, out);
     Sizes {
         rows: count,

@@ -21,10 +21,10 @@ use Rattle.merging.proofs.Equal.{equal-eq, eq-equal}
 use Rattle.merging.proofs.States.{rows-of-in, rows-of-state}
 use Rattle.merging.proofs.Ruled.{rows-climb}
 use Rattle.shrink_alike.specs.Faces.{mark-in, production-at, counted, like, hash, sign}
-use Rattle.shrink_classes.specs.Slots.{Open, Stops, Stands}
+use Rattle.shrink_slots.specs.Slots.{Open, Stops, Stands}
 use Rattle.shrink_classes.specs.Classes.{State, Topped, Like, Settled, From, Classed, Chosen, Classes}
 use Rattle.shrink_alike.proofs.Alike.{hash-small}
-use Rattle.shrink_classes.proofs.Slotted.{
+use Rattle.shrink_slots.proofs.Slotted.{
   empty-all,
   empty-put,
   empty-some,

@@ -8,7 +8,7 @@ use Rattle.paper.specs.declared.Mode.{Mode}
 use Rattle.paper.specs.Rows.{Row, Table, states}
 use Rattle.paper.specs.Shrink.{rows-of}
 use Rattle.shrink_alike.specs.Faces.{mark-in, production-at, counted, like, sign}
-use Rattle.shrink_classes.specs.Slots.{empty-in, Stops, Stands}
+use Rattle.shrink_slots.specs.Slots.{empty-in, Stops, Stands}
 
 -- A test tells whether A holds.
 pub record Tells (A : Type 0) (r : Bool) : Type 0 where

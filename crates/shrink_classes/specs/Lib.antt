@@ -1,2 +1,1 @@
-pub mod Slots
 pub mod Classes

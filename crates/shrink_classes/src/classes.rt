@@ -1,5 +1,4 @@
 // The classes of states that become one, by one pass down the states.
-use crate::slots;
 use paper::Mode;
 use shrink_alike::index;
 use shrink_alike::same;
@@ -13,7 +12,7 @@ ghost use Rattle.counts.specs.Arrays.{Fitting, Holds};
 ghost use Rattle.ruled.specs.Into.{Marked};
 ghost use Rattle.shrink_alike.specs.Index.{Indexed};
 ghost use Rattle.shrink_alike.specs.Faces.{coded};
-ghost use Rattle.shrink_classes.specs.Slots.{Open};
+ghost use Rattle.shrink_slots.specs.Slots.{Open};
 ghost use Rattle.shrink_classes.specs.Classes.{Tells, State, Topped, Chosen, Classes};
 
 // s is a state: 0, or one that a row leads into.
@@ -58,7 +57,7 @@ fn settle(
         (now (slots .exit)) (now (class .exit)) s ⌝ }
 {
     let g = same::sign(mode, p0, rows, into, first, class, s);
-    let at = slots::find(mode, p0, rows, into, first, class, slots, s, g);
+    let at = shrink_slots::find(mode, p0, rows, into, first, class, slots, s, g);
     let h = index::at(slots, at);
     if h == 65535 {
         slots[at] = s as u16;

@@ -1,3 +1,2 @@
 // Shrink: the classes of states that become one.
 pub mod classes;
-mod slots;

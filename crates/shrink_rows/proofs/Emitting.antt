@@ -35,9 +35,10 @@ use Rattle.merging.proofs.Loops.{
 use Rattle.shrink_alike.specs.Index.{leaves}
 use Rattle.shrink_alike.specs.Faces.{coded, mark-in}
 use Rattle.shrink_classes.specs.Classes.{Topped}
-use Rattle.shrink_rows.specs.Output.{Named, Placed, new-row, new-pair, Written, Emitted, all-rows}
+use Rattle.shrink_places.specs.Numbers.{Named, Placed}
+use Rattle.shrink_rows.specs.Output.{new-row, new-pair, Written, Emitted, all-rows}
 use Rattle.shrink_alike.proofs.Begins.{Standing, Walk, stand-row, stand-end, leaves-yes}
-use Rattle.shrink_rows.proofs.Counting.{heads-rise, head-state}
+use Rattle.shrink_places.proofs.Counting.{heads-rise, head-state}
 use Rattle.shrink_rows.proofs.Writing.{written-none, written-more}
 
 -- a row at a place is a row of the slice

@@ -1,3 +1,2 @@
-pub mod Counting
 pub mod Writing
 pub mod Emitting

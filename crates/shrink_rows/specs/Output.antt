@@ -1,9 +1,9 @@
--- New numbers of classes, and rows written at the front of an output.
+-- Rows written at the front of an output, and the shrunk table.
 use mathlib.Core.Path.{_≡_}
 use mathlib.Core.Option.{none}
 use mathlib.Core.List.{List, _++_, map}
-use Prim.Native.Nat.{ℕ, _+_, _*_, _≤_, _<_}
-use lib.ListN.{length, getD, set, take, drop}
+use Prim.Native.Nat.{ℕ, _+_, _*_, _≤_}
+use lib.ListN.{length, getD, take, drop}
 use lib.IntN.{ℤ}
 use Rattle.paper.specs.declared.Mode.{Mode}
 use Rattle.paper.specs.Rows.{Row, Table, numbers, rows-in, table}
@@ -12,25 +12,9 @@ use Rattle.paper.specs.Shrink.{production-of, rows-of}
 use Rattle.rows.specs.Places.{row-at}
 use Rattle.rows.specs.Verdicts.{Judges}
 use Rattle.rows.specs.declared.verdict.Verdict.the-variants.{Pass}
-use Rattle.merging.specs.Marks.{source-of, head-of, heads-of, place-among, marked-rows}
+use Rattle.merging.specs.Marks.{heads-of, marked-rows}
 use Rattle.shrink_alike.specs.Faces.{mark-in, coded}
-use Rattle.shrink_classes.specs.Classes.{State, Classes}
-
--- The mark of a state is the highest state of its class, below 1,024.
-pub record Named (t : Table) (class : List ℕ) : Type 0 where
-  pub small : (s : ℕ) → State t s → mark-in class s < 1024
-  pub source : (s : ℕ) → State t s → source-of (mark-in class) t s ≡ mark-in class s
-
--- The mark h got the number m and the next number is r, if it had none; else nothing changed.
-pub record Placing (old new : List ℕ) (h m r : ℕ) : Type 0 where
-  pub fresh : getD old h 0 ≡ 65535 → (new ≡ set old h m) × (r ≡ m + 1)
-  pub held : (getD old h 0 ≡ 65535 → ⊥) → (new ≡ old) × (r ≡ m)
-
--- Each mark has the number that the shrunk table gives to its states.
-pub record Placed (t : Table) (class number : List ℕ) : Type 0 where
-  pub sized : length number ≡ 1024
-  pub placed : (s : ℕ) → State t s
-      → getD number (mark-in class s) 0 ≡ place-among (heads-of (mark-in class) t) (head-of (mark-in class) t s)
+use Rattle.shrink_classes.specs.Classes.{Classes}
 
 -- Row i, from the state that has the new number f.
 abbrev pub new-row : List ℤ → List ℕ → List ℕ → ℕ → ℕ → Row

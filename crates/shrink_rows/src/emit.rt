@@ -17,7 +17,8 @@ ghost use Rattle.merging.specs.Marks.{heads-of, place-among};
 ghost use Rattle.shrink_alike.specs.Index.{Begun, Indexed};
 ghost use Rattle.shrink_alike.specs.Faces.{coded, mark-in};
 ghost use Rattle.shrink_classes.specs.Classes.{Tells, Topped};
-ghost use Rattle.shrink_rows.specs.Output.{Named, Placed, new-row, Written, Emitted, all-rows};
+ghost use Rattle.shrink_places.specs.Numbers.{Named, Placed};
+ghost use Rattle.shrink_rows.specs.Output.{new-row, Written, Emitted, all-rows};
 
 // Row i, from the new number f, as row o of the output.
 fn emit_row(

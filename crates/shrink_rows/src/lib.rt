@@ -1,3 +1,2 @@
-// Shrink: the classes numbered, and the rows of the shrunk table.
+// Shrink: the rows of the shrunk table.
 pub mod emit;
-pub mod places;

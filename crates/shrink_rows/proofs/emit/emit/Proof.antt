@@ -8,7 +8,7 @@ use Rattle.merging.specs.Marks.{heads-of, place-among}
 use Rattle.merging.proofs.Places.{place-low, place-zero}
 use Rattle.shrink_alike.specs.Faces.{coded, mark-in}
 use Rattle.shrink_rows.specs.Output.{Written}
-use Rattle.shrink_rows.proofs.Counting.{heads-rise, head-state}
+use Rattle.shrink_places.proofs.Counting.{heads-rise, head-state}
 use Rattle.shrink_rows.proofs.Emitting.{
   rows-below,
   heads-start,

@@ -9,7 +9,7 @@ use Rattle.laws.proofs.Members.{In}
 use Rattle.merging.specs.Marks.{heads-of}
 use Rattle.shrink_alike.specs.Faces.{coded, mark-in}
 use Rattle.shrink_classes.specs.Classes.{Tells}
-use Rattle.shrink_rows.proofs.Counting.{no-head, head-tells}
+use Rattle.shrink_places.proofs.Counting.{no-head, head-tells}
 use borrow.Author.Needs.{needs}
 use Rattle.shrink_rows.proofs.emit.is_head.Statement.{statement}
 use Rattle.shrink_rows.proofs.emit.is_head.Tie as tie

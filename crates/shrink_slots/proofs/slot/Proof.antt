@@ -1,12 +1,12 @@
 use mathlib.Core.Path.{refl}
 use native.Mathlib.Omega.{arith}
 use borrow.Author.Needs.{needs}
-use Rattle.shrink_classes.specs.Slots.{slot}
-use Rattle.shrink_classes.proofs.Walked.{step-short}
-use Rattle.shrink_classes.proofs.slots.slot.Statement.{statement}
-use Rattle.shrink_classes.proofs.slots.slot.Tie as tie
-use Rattle.shrink_classes.proofs.slots.slot.Reads as reads
-use Rattle.shrink_classes.proofs.slots.slot.Lts as lts
+use Rattle.shrink_slots.specs.Slots.{slot}
+use Rattle.shrink_slots.proofs.Walked.{step-short}
+use Rattle.shrink_slots.proofs.slot.Statement.{statement}
+use Rattle.shrink_slots.proofs.slot.Tie as tie
+use Rattle.shrink_slots.proofs.slot.Reads as reads
+use Rattle.shrink_slots.proofs.slot.Lts as lts
 
 mul-result : tie.Need-mul-result
 mul-result c = search needs

@@ -23,7 +23,7 @@ use Rattle.merging.proofs.Places.{place-low, place-lt, place-zero}
 use Rattle.merging.proofs.Loops.{place-next, place-skip, place-all}
 use Rattle.shrink_alike.specs.Faces.{mark-in}
 use Rattle.shrink_classes.specs.Classes.{State, Topped, Tells}
-use Rattle.shrink_rows.specs.Output.{Named, Placing, Placed}
+use Rattle.shrink_places.specs.Numbers.{Named, Placing, Placed}
 
 module _ (t : Table) (class : List ℕ) where
   abbrev mark : ℕ → ℕ

@@ -10,7 +10,7 @@ ghost use Rattle.counts.specs.Arrays.{Holds};
 ghost use Rattle.merging.specs.Marks.{heads-of};
 ghost use Rattle.shrink_alike.specs.Faces.{coded, mark-in};
 ghost use Rattle.shrink_classes.specs.Classes.{Topped};
-ghost use Rattle.shrink_rows.specs.Output.{Named, Placing, Placed};
+ghost use Rattle.shrink_places.specs.Numbers.{Named, Placing, Placed};
 
 // The mark of s gets the number m if it has none; the next number.
 fn place(class: &[u16; 1024], number: &mut [u16; 1024], s: usize, m: usize) -> usize

@@ -15,7 +15,7 @@ use native.Mathlib.Nat.{
 use lib.Arith.{mod-mul}
 use lib.Pow.{pow-pos}
 use Rattle.counts.proofs.Arrays.{by-equal}
-use Rattle.shrink_classes.specs.Slots.{slot}
+use Rattle.shrink_slots.specs.Slots.{slot}
 
 pub slot-small : (g d : ℕ) → slot g d < 1024
 unfolding slot

@@ -6,7 +6,7 @@ ghost use mathlib.Core.Path.{_≡_};
 ghost use Prim.Native.Nat.{_<_};
 ghost use Rattle.shrink_alike.specs.Index.{Indexed};
 ghost use Rattle.shrink_alike.specs.Faces.{coded, mark-in, like};
-ghost use Rattle.shrink_classes.specs.Slots.{slot, passes, Open, Stops};
+ghost use Rattle.shrink_slots.specs.Slots.{slot, passes, Open, Stops};
 
 // The slot after d steps of the walk of the number g.
 fn slot(g: usize, d: usize) -> usize

@@ -2,12 +2,12 @@ use mathlib.Core.Path.{ap, _∙_}
 use Prim.Native.Nat.{ℕ}
 use lib.ListN.{getD}
 use Rattle.shrink_alike.specs.Faces.{mark-in}
-use Rattle.shrink_rows.proofs.Counting.{place-held, place-fresh}
+use Rattle.shrink_places.proofs.Counting.{place-held, place-fresh}
 use borrow.Author.Needs.{needs}
-use Rattle.shrink_rows.proofs.places.place.Statement.{statement}
-use Rattle.shrink_rows.proofs.places.place.Tie as tie
-use Rattle.shrink_rows.proofs.places.place.Reads as reads
-use Rattle.shrink_rows.proofs.places.place.Lts as lts
+use Rattle.shrink_places.proofs.place.Statement.{statement}
+use Rattle.shrink_places.proofs.place.Tie as tie
+use Rattle.shrink_places.proofs.place.Reads as reads
+use Rattle.shrink_places.proofs.place.Lts as lts
 use Rattle.shrink_alike.proofs.index.at.Reads as at-reads
 
 at-requires : tie.Need-at-requires

@@ -2,15 +2,15 @@ use mathlib.Core.Path.{sym, _∙_}
 use Prim.Native.Nat.{_-_}
 use native.Mathlib.Omega.{arith}
 use Rattle.shrink_alike.specs.Faces.{coded, mark-in, like}
-use Rattle.shrink_classes.specs.Slots.{Walks}
-use Rattle.shrink_classes.proofs.Walked.{slot-small}
-use Rattle.shrink_classes.proofs.Slotted.{walk-start, walk-near, walk-next}
-use Rattle.shrink_classes.proofs.slots.find.Statement.{statement}
-use Rattle.shrink_classes.proofs.slots.find.Tie as tie
-use Rattle.shrink_classes.proofs.slots.find.Reads as reads
-use Rattle.shrink_classes.proofs.slots.find.Lts as lts
-use Rattle.shrink_classes.proofs.slots.passes.Reads as passes-reads
-use Rattle.shrink_classes.proofs.slots.slot.Reads as slot-reads
+use Rattle.shrink_slots.specs.Slots.{Walks}
+use Rattle.shrink_slots.proofs.Walked.{slot-small}
+use Rattle.shrink_slots.proofs.Slotted.{walk-start, walk-near, walk-next}
+use Rattle.shrink_slots.proofs.find.Statement.{statement}
+use Rattle.shrink_slots.proofs.find.Tie as tie
+use Rattle.shrink_slots.proofs.find.Reads as reads
+use Rattle.shrink_slots.proofs.find.Lts as lts
+use Rattle.shrink_slots.proofs.passes.Reads as passes-reads
+use Rattle.shrink_slots.proofs.slot.Reads as slot-reads
 
 abbrev Inv-loop : tie.InvT-loop
 Inv-loop mode p0 rows into first class slots s g d₀ at₀ d at = Walks (like mode (coded p0 rows) (mark-in class)) slots

@@ -2,11 +2,11 @@ use mathlib.Core.Path.{_∙_}
 use native.Mathlib.Omega.{arith}
 use Rattle.shrink_alike.specs.Faces.{coded, mark-in, like}
 use borrow.Author.Needs.{needs}
-use Rattle.shrink_classes.proofs.Slotted.{passes-empty, passes-held}
-use Rattle.shrink_classes.proofs.slots.passes.Statement.{statement}
-use Rattle.shrink_classes.proofs.slots.passes.Tie as tie
-use Rattle.shrink_classes.proofs.slots.passes.Reads as reads
-use Rattle.shrink_classes.proofs.slots.passes.Lts as lts
+use Rattle.shrink_slots.proofs.Slotted.{passes-empty, passes-held}
+use Rattle.shrink_slots.proofs.passes.Statement.{statement}
+use Rattle.shrink_slots.proofs.passes.Tie as tie
+use Rattle.shrink_slots.proofs.passes.Reads as reads
+use Rattle.shrink_slots.proofs.passes.Lts as lts
 use Rattle.shrink_alike.proofs.index.at.Reads as at-reads
 use Rattle.shrink_alike.proofs.same.like.Reads as like-reads
 

@@ -11,8 +11,8 @@ use lib.Seq.{getD-set-same, getD-set-other}
 use Rattle.rows.proofs.Rest.{by-test}
 use Rattle.rows.proofs.Keys.{compared}
 use Rattle.counts.proofs.Arrays.{by-equal}
-use Rattle.shrink_classes.specs.Slots.{slot, empty-in, Open, passes, Walks, Stops, Stands}
-use Rattle.shrink_classes.proofs.Walked.{slot-small, slot-met}
+use Rattle.shrink_slots.specs.Slots.{slot, empty-in, Open, passes, Walks, Stops, Stands}
+use Rattle.shrink_slots.proofs.Walked.{slot-small, slot-met}
 
 -- ---- how many are empty
 
