@@ -3,14 +3,17 @@
 use mathlib.Core.Path.{_≡_, refl, sym, ap, _∙_}
 use mathlib.Core.Bool.{Bool, true, false, not, _&&_}
 use mathlib.Core.Option.{Option, none, some}
-use Prim.Native.Nat.{ℕ, suc, _≤_, _<_}
+use mathlib.Core.List.{List}
+use Prim.Native.Nat.{ℕ, suc, _/_, _≤_, _<_}
 use native.Mathlib.Omega.{arith}
 use borrow.Author.Tests.{le-leb, lt-leb, leb-true}
 use lib.Dec.{leb, leb·suc-suc}
-use Rattle.paper.specs.Rows.{Row, Table}
+use lib.ListN.{length}
+use lib.IntN.{ℤ}
+use Rattle.paper.specs.Rows.{Row, Table, rows-in}
 use Rattle.paper.specs.Checks.{production-fits, row-fits, every, range}
-use Rattle.rows.specs.Places.{code}
-use Rattle.rows.proofs.Rest.{both}
+use Rattle.rows.specs.Places.{code, row-at}
+use Rattle.rows.proofs.Rest.{both, every-at}
 
 pub code-fits : (p : Option ℕ) → leb (code p) 65536 ≡ production-fits p
 unfolding production-fits
@@ -70,3 +73,7 @@ fit r e =
       to = leb-true _ _ (b .0);
       production = leb-true _ _ (code-fits (r .production) ∙ b .1);
     }
+
+-- a row of rows that all are
+pub fits-at : (ns : List ℤ) → every row-fits (rows-in ns) ≡ true → (i : ℕ) → i < length ns / 4 → Fit (row-at ns i)
+fits-at ns e i l = fit (row-at ns i) (every-at row-fits ns i e (omega arith))

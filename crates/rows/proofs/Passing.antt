@@ -10,16 +10,16 @@ use borrow.Author.Tests.{ltb-true}
 use lib.Dec.{ltb}
 use lib.ListN.{length}
 use lib.IntN.{ℤ}
-use Rattle.paper.specs.Checks.{row-fits, rising}
+use Rattle.paper.specs.Checks.{rising}
 use Rattle.rows.specs.Places.{row-at, rest, key}
 use Rattle.rows.specs.Passed.{Passed}
-use Rattle.rows.proofs.Rest.{both, by-place, every-at}
-use Rattle.rows.proofs.Fits.{Fit, fit}
+use Rattle.rows.proofs.Rest.{both, by-place}
+use Rattle.rows.proofs.Fits.{Fit, fits-at}
 use Rattle.rows.proofs.Keys.{rising-key, rising-end}
 
 -- a row of a slice that passed is within its bounds
 pub fit-at : {ns : List ℤ} (p : Passed ns) (i : ℕ) → i < length ns / 4 → Fit (row-at ns i)
-fit-at {ns} p i l = fit (row-at ns i) (every-at row-fits ns i (p .fits) (omega arith))
+fit-at {ns} p i l = fits-at ns (p .fits) i l
 
 module _ {ns : List ℤ} (p : Passed ns) where
   rises-from : (i : ℕ) → rising (rest ns i) ≡ true

@@ -70,11 +70,17 @@ pub fn order(rows: &[i32]) -> bool
     ensures { λ r. ⌜ r ≡ order (bare (now (rows .entry))) ⌝ }
 {
     let n = rows.len() / 4;
+    if n == 0 {
+        return false;
+    }
+    let mut last = numbers::key_at(rows, 0);
     let mut i = 1;
     while i < n {
-        if numbers::key_at(rows, i) <= numbers::key_at(rows, i - 1) {
+        let key = numbers::key_at(rows, i);
+        if key <= last {
             return true;
         }
+        last = key;
         i += 1;
     }
     false

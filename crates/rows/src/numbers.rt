@@ -1,10 +1,12 @@
 // Where a table's i32 numbers become states, terminals and productions, and back.
 ghost use mathlib.Core.Path.{_≡_};
+ghost use mathlib.Core.Bool.{true};
 ghost use mathlib.Core.Option.{Option};
-ghost use Prim.Native.Nat.{_+_, _*_, _<_, _≤_};
+ghost use Prim.Native.Nat.{_+_, _*_, _/_, _<_, _≤_};
 ghost use lib.ListN.{length, getD};
 ghost use lib.IntN.{ℤ, pos};
-ghost use Rattle.paper.specs.Rows.{natural, accepting, signed};
+ghost use Rattle.paper.specs.Rows.{natural, accepting, signed, rows-in};
+ghost use Rattle.paper.specs.Checks.{every, row-fits};
 ghost use Rattle.rows.specs.Places.{Reads, code, uncoded, row-at, key};
 
 // A number that may not be below 0.
@@ -75,10 +77,10 @@ pub fn code_at(rows: &[i32], i: usize) -> usize
     coded(rows[i * 4 + 3])
 }
 
-// Row i's from and terminal in one number, by which rows rise.
+// Row i's from and terminal in one number, by which rows rise. In rows within their bounds no number is below 0.
 pub fn key_at(rows: &[i32], i: usize) -> usize
-    requires { ⌜ i * 4 + 3 < length (now rows) ⌝ }
+    requires { ⌜ (every row-fits (rows-in (now rows)) ≡ true) × (i < length (now rows) / 4) ⌝ }
     ensures { λ r. ⌜ r ≡ key (row-at (now (rows .entry)) i) ⌝ }
 {
-    from_at(rows, i) * 65536 + terminal_at(rows, i)
+    (rows[i * 4] as usize) * 65536 + (rows[i * 4 + 1] as usize)
 }

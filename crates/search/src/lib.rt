@@ -1,4 +1,5 @@
 // The row of a state and a terminal, and the stretch of a state's rows, in rows that passed 1 to 3.
+use rows::numbers;
 ghost use mathlib.Core.Path.{_≡_};
 ghost use Prim.Native.Nat.{_+_, _*_, _<_, _≤_, _/_};
 ghost use lib.ListN.{length};
@@ -19,14 +20,6 @@ pub struct Span {
     pub count: usize,
 }
 
-// Row i's key, in rows that passed 1 to 3: no number is below 0.
-fn key(rows: &[i32], i: usize) -> usize
-    requires { ⌜ Passed (now rows) × (i < length (now rows) / 4) ⌝ }
-    ensures { λ r. ⌜ r ≡ key (row-at (now (rows .entry)) i) ⌝ }
-{
-    (rows[i * 4] as usize) * 65536 + (rows[i * 4 + 1] as usize)
-}
-
 // The first of the rows before end whose key is at least x, one after the other; end where there is none.
 fn scan(rows: &[i32], end: usize, x: usize) -> usize
     requires { ⌜ Passed (now rows) × (end ≤ length (now rows) / 4) ⌝ }
@@ -34,7 +27,7 @@ fn scan(rows: &[i32], end: usize, x: usize) -> usize
 {
     let mut i = 0;
     while i < end {
-        if x <= key(rows, i) {
+        if x <= numbers::key_at(rows, i) {
             return i;
         }
         i += 1;
@@ -51,7 +44,7 @@ fn halve(rows: &[i32], start: usize, x: usize) -> usize
     let mut high = rows.len() / 4;
     while low < high {
         let middle = low + (high - low) / 2;
-        if key(rows, middle) < x {
+        if numbers::key_at(rows, middle) < x {
             low = middle + 1;
         } else {
             high = middle;
@@ -70,7 +63,7 @@ fn lower(rows: &[i32], x: usize) -> usize
     if n <= 32 {
         return scan(rows, n, x);
     }
-    if key(rows, 31) < x {
+    if numbers::key_at(rows, 31) < x {
         return halve(rows, 32, x);
     }
     scan(rows, 32, x)
@@ -86,7 +79,7 @@ pub fn find(rows: &[i32], state: usize, terminal: usize) -> Found
     if rows.len() / 4 <= i {
         return Found::Missing(i);
     }
-    if key(rows, i) == x {
+    if numbers::key_at(rows, i) == x {
         return Found::At(i);
     }
     Found::Missing(i)

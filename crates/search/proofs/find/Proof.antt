@@ -23,15 +23,15 @@ returns c =
       c .before .lower .ensures,
     )
 
-key-requires : tie.Need-key-requires
-key-requires c κs = search needs
+key-at-requires : tie.Need-key-at-requires
+key-at-requires c κs = search needs
 
 returns-2 : tie.Need-returns-2
 returns-2 c =
     let l = c .before .before .before in
     let s = l .before in
     let a = s .args in
-    let e = sym (c .before .key .ensures) ∙ c .if2 .taken in (
+    let e = sym (c .before .key-at .ensures) ∙ c .if2 .taken in (
       omega arith,
       found (a .rows .now) (a .state) (a .terminal) _ (l .lower .ensures) (s .pre .0) (s .pre .2)
           (omega arith) e,
@@ -43,10 +43,10 @@ returns-3 c =
     let s = l .before in
     let a = s .args in (
       missing-here (a .rows .now) (a .state) (a .terminal) _ (l .lower .ensures) (s .pre .0) (omega arith)
-          (λ e. c .if2 .left (c .before .key .ensures ∙ e)),
+          (λ e. c .if2 .left (c .before .key-at .ensures ∙ e)),
       l .lower .ensures,
     )
 
 pub find-spec : {M : Type 1} → statement M
 find-spec =
-    tie.close (tie.spec mul-x add-x lower-requires returns key-requires returns-2 returns-3)
+    tie.close (tie.spec mul-x add-x lower-requires returns key-at-requires returns-2 returns-3)

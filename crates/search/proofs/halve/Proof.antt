@@ -21,10 +21,10 @@ sub-middle c = search needs
 add-middle : tie.Need-add-middle Inv-loop μ-loop
 add-middle c = search needs
 
-key-requires : tie.Need-key-requires Inv-loop μ-loop
-key-requires c κs =
+key-at-requires : tie.Need-key-at-requires Inv-loop μ-loop
+key-at-requires c κs =
     let l = c .before in
-    (l .before .pre .0, omega (arith, l .loop .inv .within))
+    (l .before .pre .0 .fits, omega (arith, l .loop .inv .within))
 
 add-low : tie.Need-add-low Inv-loop μ-loop
 add-low c = search needs
@@ -35,7 +35,7 @@ loop-less c = search needs
 loop-again : tie.Need-loop-again Inv-loop μ-loop
 loop-again c =
     let l = c .before .before .before in
-    raised (l .before .pre .0) (l .loop .inv) _ (omega arith) (omega (arith, c .before .key .ensures))
+    raised (l .before .pre .0) (l .loop .inv) _ (omega arith) (omega (arith, c .before .key-at .ensures))
 
 loop-less-2 : tie.Need-loop-less-2 Inv-loop μ-loop
 loop-less-2 c = search needs
@@ -43,7 +43,7 @@ loop-less-2 c = search needs
 loop-again-2 : tie.Need-loop-again-2 Inv-loop μ-loop
 loop-again-2 c =
     let l = c .before .before .before in
-    sunk (l .before .pre .0) (l .loop .inv) _ (omega arith) (omega arith) (omega (arith, c .before .key .ensures))
+    sunk (l .before .pre .0) (l .loop .inv) _ (omega arith) (omega arith) (omega (arith, c .before .key-at .ensures))
 
 returns : tie.Need-returns Inv-loop μ-loop
 returns c = met (c .before .loop .inv) (c .loop-test .left)
@@ -57,7 +57,7 @@ halve-spec =
     loop-holds
     sub-middle
     add-middle
-    key-requires
+    key-at-requires
     add-low
     loop-less
     loop-again

@@ -13,14 +13,14 @@ returns c =
     let s = c .before .before in
     scanned (s .pre) _ (s .args .x) _ (c .scan .ensures) (omega arith) (λ q. refl)
 
-key-requires : tie.Need-key-requires
-key-requires c κs = search needs
+key-at-requires : tie.Need-key-at-requires
+key-at-requires c κs = search needs
 
 halve-requires : tie.Need-halve-requires
 halve-requires c κs =
     let k = c .before in
     let s = k .before .before in
-    (s .pre, opened (s .pre) (s .args .x) 31 (omega arith) (omega (arith, k .key .ensures)))
+    (s .pre, opened (s .pre) (s .args .x) 31 (omega arith) (omega (arith, k .key-at .ensures)))
 
 returns-2 : tie.Need-returns-2
 returns-2 c = search needs
@@ -33,7 +33,7 @@ returns-3 c =
     let k = c .before .before in
     let s = k .before .before in
     scanned (s .pre) 32 (s .args .x) _ (c .scan2 .ensures) (omega arith)
-    (λ q. absurd (omega (arith, c .scan2 .ensures .below .row 31 (omega arith), k .key .ensures)))
+    (λ q. absurd (omega (arith, c .scan2 .ensures .below .row 31 (omega arith), k .key-at .ensures)))
 
 pub lower-spec : {M : Type 1} → statement M
 lower-spec =
@@ -41,7 +41,7 @@ lower-spec =
     (tie.spec
     scan-requires
     returns
-    key-requires
+    key-at-requires
     halve-requires
     returns-2
     scan-requires-2

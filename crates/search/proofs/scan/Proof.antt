@@ -16,15 +16,15 @@ abbrev μ-loop : tie.MeasureT-loop
 loop-holds : tie.Need-loop-holds Inv-loop μ-loop
 loop-holds c = (omega arith, none-passed _ _)
 
-key-requires : tie.Need-key-requires Inv-loop μ-loop
-key-requires c κs =
+key-at-requires : tie.Need-key-at-requires Inv-loop μ-loop
+key-at-requires c κs =
     let l = c .before in
-    (l .before .pre .0, omega arith)
+    (l .before .pre .0 .fits, omega arith)
 
 returns : tie.Need-returns Inv-loop μ-loop
 returns c =
     let l = c .before .before .before in
-    record { within = omega arith; below = l .loop .inv .1; here = λ h. omega (arith, c .before .key .ensures) }
+    record { within = omega arith; below = l .loop .inv .1; here = λ h. omega (arith, c .before .key-at .ensures) }
 
 add-i : tie.Need-add-i Inv-loop μ-loop
 add-i c = search needs
@@ -35,7 +35,7 @@ loop-less c = omega arith
 loop-again : tie.Need-loop-again Inv-loop μ-loop
 loop-again c =
     let l = c .before .before .before in
-    (omega arith, one-passed (l .loop .inv .1) (omega (arith, c .before .key .ensures)))
+    (omega arith, one-passed (l .loop .inv .1) (omega (arith, c .before .key-at .ensures)))
 
 returns-2 : tie.Need-returns-2 Inv-loop μ-loop
 returns-2 c =
@@ -46,4 +46,4 @@ returns-2 c =
 pub scan-spec : {M : Type 1} → statement M
 scan-spec =
     tie.close
-    (tie.spec Inv-loop μ-loop loop-holds key-requires returns add-i loop-less loop-again returns-2)
+    (tie.spec Inv-loop μ-loop loop-holds key-at-requires returns add-i loop-less loop-again returns-2)

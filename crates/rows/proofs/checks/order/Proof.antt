@@ -11,34 +11,36 @@ use Rattle.rows.proofs.checks.order.Statement.{statement}
 use Rattle.rows.proofs.checks.order.Tie as tie
 
 abbrev Inv-loop : tie.InvT-loop
-Inv-loop rows n i₀ i = (0 < i) × (rising (rows-in rows) ≡ rising (rest rows (i - 1)))
+Inv-loop rows n last₀ i₀ last i =
+    (0 < i) × (last ≡ key (row-at rows (i - 1))) × (rising (rows-in rows) ≡ rising (rest rows (i - 1)))
 
 abbrev μ-loop : tie.MeasureT-loop
-μ-loop rows n i₀ i = n - i
+μ-loop rows n last₀ i₀ last i = n - i
 
-loop-holds : tie.Need-loop-holds Inv-loop μ-loop
-loop-holds c = (omega arith, refl)
+returns : tie.Need-returns Inv-loop μ-loop
+unfolding order
+returns c = ap not (sym (rising-end (c .before .args .rows .now) 0 (omega arith)))
 
 key-at-requires : tie.Need-key-at-requires Inv-loop μ-loop
 key-at-requires c κs = search needs
 
-sub-key-at : tie.Need-sub-key-at Inv-loop μ-loop
-sub-key-at c = search needs
+loop-holds : tie.Need-loop-holds Inv-loop μ-loop
+loop-holds c = (omega arith, c .key-at .ensures, refl)
 
 key-at-requires-2 : tie.Need-key-at-requires-2 Inv-loop μ-loop
 key-at-requires-2 c κs = search needs
 
-returns : tie.Need-returns Inv-loop μ-loop
+returns-2 : tie.Need-returns-2 Inv-loop μ-loop
 unfolding order
-returns c =
-    let l = c .before .before .before .before in
-    let s = l .before in
+returns-2 c =
+    let l = c .before .before .before in
+    let s = l .before .before .before in
     let ns = s .args .rows .now in
     let j = l .loop .i - 1 in
     let e : j + 1 ≡ l .loop .i = omega arith in
     let k : key (row-at ns (j + 1)) ≤ key (row-at ns j) =
-    rw e (omega (arith, c .before .before .key-at .ensures, c .before .key-at2 .ensures)) in
-    ap not (sym (l .loop .inv .1 ∙ rising-fails ns j (s .pre) (omega arith) k))
+    rw e (omega (arith, c .before .key-at2 .ensures, l .loop .inv .1)) in
+    ap not (sym (l .loop .inv .2 ∙ rising-fails ns j (s .pre) (omega arith) k))
 
 add-i : tie.Need-add-i Inv-loop μ-loop
 add-i c = search needs
@@ -48,25 +50,25 @@ loop-less c = search needs
 
 loop-again : tie.Need-loop-again Inv-loop μ-loop
 loop-again c =
-    let l = c .before .before .before .before in
-    let s = l .before in
+    let l = c .before .before .before in
+    let s = l .before .before .before in
     let ns = s .args .rows .now in
     let j = l .loop .i - 1 in
     let e : j + 1 ≡ l .loop .i = omega arith in
     let d : l .loop .i + 1 - 1 ≡ j + 1 = omega arith in
     let k : key (row-at ns j) < key (row-at ns (j + 1)) =
-    rw e (omega (arith, c .before .before .key-at .ensures, c .before .key-at2 .ensures)) in (
+    rw e (omega (arith, c .before .key-at2 .ensures, l .loop .inv .1)) in (
       omega arith,
-      l .loop .inv .1 ∙ rising-next ns j (s .pre) (omega arith) k ∙ ap (λ (m : ℕ). rising (rest ns m))
-          (sym d),
+      c .before .key-at2 .ensures ∙ ap (λ (m : ℕ). key (row-at ns m)) (sym e ∙ sym d),
+      l .loop .inv .2 ∙ rising-next ns j (s .pre) (omega arith) k ∙ ap (λ (m : ℕ). rising (rest ns m)) (sym d),
     )
 
-returns-2 : tie.Need-returns-2 Inv-loop μ-loop
+returns-3 : tie.Need-returns-3 Inv-loop μ-loop
 unfolding order
-returns-2 c =
+returns-3 c =
     let l = c .before in
-    let ns = l .before .args .rows .now in
-    ap not (sym (l .loop .inv .1 ∙ rising-end ns (l .loop .i - 1) (omega arith)))
+    let ns = l .before .before .before .args .rows .now in
+    ap not (sym (l .loop .inv .2 ∙ rising-end ns (l .loop .i - 1) (omega arith)))
 
 pub order-spec : {M : Type 1} → statement M
 order-spec =
@@ -74,12 +76,12 @@ order-spec =
     (tie.spec
     Inv-loop
     μ-loop
-    loop-holds
-    key-at-requires
-    sub-key-at
-    key-at-requires-2
     returns
+    key-at-requires
+    loop-holds
+    key-at-requires-2
+    returns-2
     add-i
     loop-less
     loop-again
-    returns-2)
+    returns-3)

@@ -3,11 +3,11 @@ use native.Mathlib.Omega.{arith}
 use lib.ListN.{getD}
 use lib.IntN.{pos}
 use Rattle.paper.specs.Rows.{natural}
 use Rattle.rows.proofs.Signed.{plain-cast, plain-read}
-use Rattle.rows.proofs.Passing.{fit-at}
+use Rattle.rows.proofs.Fits.{fits-at}
 use borrow.Author.Needs.{needs}
-use Rattle.search.proofs.key.Statement.{statement}
-use Rattle.search.proofs.key.Tie as tie
+use Rattle.rows.proofs.numbers.key_at.Statement.{statement}
+use Rattle.rows.proofs.numbers.key_at.Tie as tie
 
 mul-result : tie.Need-mul-result
 mul-result c = search needs
@@ -21,14 +21,14 @@ shared-slice-copy-out-result c = search needs
 cast-result : tie.Need-cast-result
 cast-result c =
     let s = c .before in
-    let f = fit-at (s .pre .0) (s .args .i) (s .pre .1) in
+    let f = fits-at (s .args .rows .now) (s .pre .0) (s .args .i) (s .pre .1) in
     let b : natural (getD (s .args .rows .now) (s .args .i * 4) (pos 0)) ≤ 65535 = omega (arith, f .from) in
     plain-cast (getD (s .args .rows .now) (s .args .i * 4) (pos 0)) b (c .result .given)
 
 mul-result-3 : tie.Need-mul-result-3
 mul-result-3 c =
     let s = c .before in
-    let f = fit-at (s .pre .0) (s .args .i) (s .pre .1) in
+    let f = fits-at (s .args .rows .now) (s .pre .0) (s .args .i) (s .pre .1) in
     let b : natural (getD (s .args .rows .now) (s .args .i * 4) (pos 0)) ≤ 65535 = omega (arith, f .from) in
     omega (arith, plain-read (getD (s .args .rows .now) (s .args .i * 4) (pos 0)) b (c .result .given))
 
@@ -47,14 +47,14 @@ shared-slice-copy-out-result-2 c = search needs
 cast-result-2 : tie.Need-cast-result-2
 cast-result-2 c =
     let s = c .before .before in
-    let f = fit-at (s .pre .0) (s .args .i) (s .pre .1) in
+    let f = fits-at (s .args .rows .now) (s .pre .0) (s .args .i) (s .pre .1) in
     plain-cast (getD (s .args .rows .now) (s .args .i * 4 + 1) (pos 0)) (f .terminal) (c .result2 .given)
 
 add-result-2 : tie.Need-add-result-2
 add-result-2 c =
     let r = c .before in
     let s = r .before in
-    let f = fit-at (s .pre .0) (s .args .i) (s .pre .1) in
+    let f = fits-at (s .args .rows .now) (s .pre .0) (s .args .i) (s .pre .1) in
     let b : natural (getD (s .args .rows .now) (s .args .i * 4) (pos 0)) ≤ 65535 = omega (arith, f .from) in
     omega (
       arith,
@@ -67,7 +67,7 @@ returns : tie.Need-returns
 returns c =
     let r = c .before in
     let s = r .before in
-    let f = fit-at (s .pre .0) (s .args .i) (s .pre .1) in
+    let f = fits-at (s .args .rows .now) (s .pre .0) (s .args .i) (s .pre .1) in
     let b : natural (getD (s .args .rows .now) (s .args .i * 4) (pos 0)) ≤ 65535 = omega (arith, f .from) in
     omega (
       arith,
@@ -76,8 +76,8 @@ returns c =
           (getD (s .args .rows .now) (s .args .i * 4 + 1) (pos 0)) (f .terminal) (c .result2 .given),
     )
 
-pub key-spec : {M : Type 1} → statement M
-key-spec =
+pub key-at-spec : {M : Type 1} → statement M
+key-at-spec =
     tie.close
     (tie.spec
     mul-result
