@@ -1,7 +1,5 @@
 use mathlib.Core.Path.{_≡_, sym, _∙_}
 use mathlib.Core.Bool.{false}
-use native.Mathlib.Omega.{arith}
-use lib.ListN.{length}
 use Rattle.paper.specs.Rows.{table}
 use Rattle.paper.specs.Checks.{row-slice}
 use Rattle.rows.proofs.Signed.{same}
@@ -28,12 +26,7 @@ row-slice-requires : tie.Need-row-slice-requires
 row-slice-requires c κs = search needs
 
 returns : tie.Need-returns
-returns c =
-    let s = c .before .before in
-    let a = s .args in
-    first-refused (a .mode) (a .prod0a) (a .ka) (a .a .now) (a .prod0b) (a .kb) (a .b .now) (length (a .out .now))
-    (a .out .now)
-    (sym (c .before .row-slice .ensures) ∙ c .if1 .taken)
+returns c = first-refused _ _ _ _ _ _ _ _ _ (sym (c .before .row-slice .ensures) ∙ c .if1 .taken)
 
 row-slice-requires-2 : tie.Need-row-slice-requires-2
 row-slice-requires-2 c κs = search needs
@@ -47,21 +40,13 @@ second-left c = sym (c .before .row-slice2 .ensures) ∙ c .if2 .left
 
 returns-2 : tie.Need-returns-2
 returns-2 c =
-    let e = c .before .before in
-    let s = e .before .before in
-    let a = s .args in
-    second-refused (a .mode) (a .prod0a) (a .ka) (a .a .now) (a .prod0b) (a .kb) (a .b .now) (length (a .out .now))
-    (a .out .now)
-    (first-left e) (sym (c .before .row-slice2 .ensures) ∙ c .if2 .taken)
+    second-refused _ _ _ _ _ _ _ _ _ (first-left (c .before .before))
+    (sym (c .before .row-slice2 .ensures) ∙ c .if2 .taken)
 
 returns-3 : tie.Need-returns-3
 returns-3 c =
     let e = c .before in
-    let s = e .before .before .before .before in
-    let a = s .args in
-    room-refused (a .mode) (a .prod0a) (a .ka) (a .a .now) (a .prod0b) (a .kb) (a .b .now) (length (a .out .now))
-    (a .out .now)
-    (first-left (e .before .before)) (second-left e) (c .if3 .taken)
+    room-refused _ _ _ _ _ _ _ _ _ (first-left (e .before .before)) (second-left e) (c .if3 .taken)
 
 tree-requires : tie.Need-tree-requires
 tree-requires c κs =
@@ -96,9 +81,7 @@ returns-4 c =
     let e = t .before .before in
     let s = e .before .before .before .before in
     let a = s .args in
-    all-checks (a .mode) (a .prod0a) (a .ka) (a .a .now) (a .prod0b) (a .kb) (a .b .now) (length (a .out .now))
-    (a .out .now)
-    (first-left (e .before .before)) (second-left e) (t .before .if3 .left) _ _
+    all-checks _ _ _ _ _ _ _ _ _ (first-left (e .before .before)) (second-left e) (t .before .if3 .left) _ _
     (checks-refuse (table (a .prod0a) (a .ka) (a .a .now)) _ (a .out .now) _
     (judges-as (a .ka) (a .a .now) (same (a .prod0a) (s .fits .prod0a)) (c .before .verdict .given .1)
     (t .tree .ensures)))
@@ -113,9 +96,7 @@ returns-5 c =
     let e = t .before .before in
     let s = e .before .before .before .before in
     let a = s .args in
-    all-checks (a .mode) (a .prod0a) (a .ka) (a .a .now) (a .prod0b) (a .kb) (a .b .now) (length (a .out .now))
-    (a .out .now)
-    (first-left (e .before .before)) (second-left e) (t .before .if3 .left) _ _
+    all-checks _ _ _ _ _ _ _ _ _ (first-left (e .before .before)) (second-left e) (t .before .if3 .left) _ _
     (checks-pass (table (a .prod0a) (a .ka) (a .a .now)) _ (a .out .now)
     (judges-as (a .ka) (a .a .now) (same (a .prod0a) (s .fits .prod0a)) (d .enum-told .given .1)
     (t .tree .ensures)) _ _
