@@ -17,7 +17,8 @@ use Rattle.rows.specs.Verdicts.{Judges}
 use Rattle.rows.specs.declared.verdict.Verdict.the-variants.{Pass}
 use Rattle.rows.proofs.Rest.{length-rows}
 use Rattle.rows.proofs.Fits.{fit}
-use Rattle.rows.proofs.Judged.{passes-first, passed, bounded}
+use Rattle.rows.proofs.Judged.{passed, bounded}
+use Rattle.ruled.proofs.Passes.{tree-passed}
 use Rattle.trees.specs.Trees as trees
 use Rattle.trees.proofs.Tree.{Tree, into}
 use Rattle.trees.proofs.Checked.{passes-tree}
@@ -27,15 +28,11 @@ use Rattle.unite.specs.Whole.{Sized, Passes}
 -- the checks 2 to 7, one by one
 checks : (t : Table) → Judges (tree t) Pass → trees.Sound t
 checks t j =
-    let a = passes-first j in
-    let b = passes-first (a .1) in
-    let c = passes-first (b .1) in
-    let d = passes-first (c .1) in
-    let e = passes-first (d .1) in
-    let f = passes-first (e .1) in
+    let h = tree-passed t j in
+    let r = h .ruled in
     record {
-      ranged = a .0;
-      treed = record { ordered = b .0; shaped = c .0; held = d .0; whole = e .0; once = f .0 };
+      ranged = r .range;
+      treed = record { ordered = r .order; shaped = r .shape; held = r .loose; whole = r .split; once = h .tree };
     }
 
 module _ (p : ℤ) (k : ℕ) (ns : List ℤ) (s : Passes p k ns) where
