@@ -9,19 +9,16 @@ use Rattle.intake.proofs.checks.lengths.Tie as tie
 
 returns : tie.Need-returns
 returns c =
-    let a = c .before .before .before .before .args in
-    room-out (a .productions .now) (a .counts .now) (a .lengths .now) (a .tokens .now) (a .room) (c .if1 .taken)
+    room-out _ _ _ _ _ (c .if1 .taken)
 
 returns-2 : tie.Need-returns-2
 returns-2 c =
-    let a = c .before .before .before .before .before .args in
-    none-out (a .productions .now) (a .counts .now) (a .lengths .now) (a .tokens .now) (a .room)
+    none-out _ _ _ _ _
     (c .before .if1 .left) (c .if2 .taken)
 
 returns-3 : tie.Need-returns-3
 returns-3 c =
-    let a = c .before .before .before .before .before .before .args in
-    uneven-out (a .productions .now) (a .counts .now) (a .lengths .now) (a .tokens .now) (a .room)
+    uneven-out _ _ _ _ _
     (c .before .before .if1 .left) (c .before .if2 .left) (c .if3 .taken)
 
 sums-requires : tie.Need-sums-requires
@@ -30,8 +27,7 @@ sums-requires c κs = search needs
 returns-4 : tie.Need-returns-4
 returns-4 c =
     let e = c .before .before in
-    let a = c .before .before .before .before .before .before .before .before .args in
-    strings-out (a .productions .now) (a .counts .now) (a .lengths .now) (a .tokens .now) (a .room)
+    strings-out _ _ _ _ _
     (e .before .before .if1 .left) (e .before .if2 .left) (e .if3 .left)
     (sym (c .before .sums .ensures) ∙ not-true (c .before .sums .result) (c .if4 .taken))
 
@@ -42,9 +38,8 @@ returns-5 : tie.Need-returns-5
 returns-5 c =
     let s = c .before in
     let e = s .before .before in
-    let a = c .before .before .before .before .before .before .before .before .before .args in
     ap not (c .sums2 .ensures)
-    ∙ tokens-left (a .productions .now) (a .counts .now) (a .lengths .now) (a .tokens .now) (a .room)
+    ∙ tokens-left _ _ _ _ _
     (e .before .before .if1 .left) (e .before .if2 .left) (e .if3 .left)
     (sym (s .before .sums .ensures) ∙ not-false (s .before .sums .result) (s .if4 .left))
 
