@@ -14,12 +14,6 @@ use Rattle.build.proofs.Answering.{refused-lengths, refused-range, acce
 use borrow.Author.Needs.{needs}
 use Rattle.build.proofs.build.Statement.{statement}
 use Rattle.build.proofs.build.Tie as tie
-use Rattle.build.proofs.build.Reads as reads
-use Rattle.build.proofs.build.Lts as lts
-use Rattle.build_checks.proofs.lengths.Reads as lengths-reads
-use Rattle.build_checks.proofs.range.Reads as range-reads
-use Rattle.build.proofs.written.Reads as written-reads
-use Rattle.rows.proofs.numbers.natural.Reads as natural-reads
 
 lengths-requires : tie.Need-lengths-requires
 lengths-requires c κs = search needs

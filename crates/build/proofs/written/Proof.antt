@@ -7,10 +7,6 @@ use Rattle.build.proofs.Answering.{makes-as}
 use borrow.Author.Needs.{needs}
 use Rattle.build.proofs.written.Statement.{statement}
 use Rattle.build.proofs.written.Tie as tie
-use Rattle.build.proofs.written.Reads as reads
-use Rattle.build.proofs.written.Lts as lts
-use Rattle.build_strings.proofs.add_all.Reads as add-all-reads
-use Rattle.grow.proofs.finish.Reads as finish-reads
 
 slice-aggregate-add-all : tie.Need-slice-aggregate-add-all
 slice-aggregate-add-all c = search needs

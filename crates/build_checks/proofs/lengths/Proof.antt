@@ -4,9 +4,6 @@ use Rattle.build_checks.proofs.Checked.{room-out, many-out, sums-left}
 use borrow.Author.Needs.{needs}
 use Rattle.build_checks.proofs.lengths.Statement.{statement}
 use Rattle.build_checks.proofs.lengths.Tie as tie
-use Rattle.build_checks.proofs.lengths.Reads as reads
-use Rattle.build_checks.proofs.lengths.Lts as lts
-use Rattle.build_checks.proofs.sums.Reads as sums-reads
 
 returns : tie.Need-returns
 returns c =

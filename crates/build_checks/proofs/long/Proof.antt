@@ -7,8 +7,6 @@ use Rattle.paper.specs.Checks.{any}
 use Rattle.build_checks.proofs.Totals.{over, long-here, long-next, long-end}
 use Rattle.build_checks.proofs.long.Statement.{statement}
 use Rattle.build_checks.proofs.long.Tie as tie
-use Rattle.build_checks.proofs.long.Reads as reads
-use Rattle.build_checks.proofs.long.Lts as lts
 
 abbrev Inv-loop : tie.InvT-loop
 Inv-loop lengths i₀ i = (i ≤ length lengths) × (any over lengths ≡ any over (drop i lengths))

@@ -6,10 +6,6 @@ use Rattle.build_checks.proofs.Checked.{production-out, lengths-left}
 use borrow.Author.Needs.{needs}
 use Rattle.build_checks.proofs.range.Statement.{statement}
 use Rattle.build_checks.proofs.range.Tie as tie
-use Rattle.build_checks.proofs.range.Reads as reads
-use Rattle.build_checks.proofs.range.Lts as lts
-use Rattle.build_checks.proofs.long.Reads as long-reads
-use Rattle.rows.proofs.numbers.natural.Reads as natural-reads
 
 natural-requires : tie.Need-natural-requires
 natural-requires c κs = search needs

@@ -7,8 +7,6 @@ use Rattle.paper.specs.Build.{sum}
 use Rattle.build_checks.proofs.Totals.{sum-next, too-much, all-summed}
 use Rattle.build_checks.proofs.sums.Statement.{statement}
 use Rattle.build_checks.proofs.sums.Tie as tie
-use Rattle.build_checks.proofs.sums.Reads as reads
-use Rattle.build_checks.proofs.sums.Lts as lts
 
 abbrev Inv-loop : tie.InvT-loop
 Inv-loop lengths count left₀ i₀ left i = (i ≤ length lengths) × (sum lengths + left ≡ count + sum (drop i lengths))

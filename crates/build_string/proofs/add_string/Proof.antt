@@ -9,10 +9,6 @@ use Rattle.build_string.proofs.Walked.{walk-tree, marked}
 use borrow.Author.Needs.{needs}
 use Rattle.build_string.proofs.add_string.Statement.{statement}
 use Rattle.build_string.proofs.add_string.Tie as tie
-use Rattle.build_string.proofs.add_string.Reads as reads
-use Rattle.build_string.proofs.add_string.Lts as lts
-use Rattle.build_string.proofs.mark.Reads as mark-reads
-use Rattle.build_string.proofs.walk.Reads as walk-reads
 
 walk-requires : tie.Need-walk-requires
 walk-requires c κs = search needs

@@ -5,11 +5,6 @@ use Rattle.build_string.proofs.Entered.{goes}
 use borrow.Author.Needs.{needs}
 use Rattle.build_string.proofs.enter.Statement.{statement}
 use Rattle.build_string.proofs.enter.Tie as tie
-use Rattle.build_string.proofs.enter.Reads as reads
-use Rattle.build_string.proofs.enter.Lts as lts
-use Rattle.build_string.proofs.grown.Reads as grown-reads
-use Rattle.grow.proofs.find.Reads as find-reads
-use Rattle.grow.proofs.to_at.Reads as to-at-reads
 
 find-requires : tie.Need-find-requires
 find-requires c κs = search needs

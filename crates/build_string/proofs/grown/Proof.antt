@@ -3,9 +3,6 @@ use Rattle.build_string.proofs.Entered.{overflows, grows}
 use borrow.Author.Needs.{needs}
 use Rattle.build_string.proofs.grown.Statement.{statement}
 use Rattle.build_string.proofs.grown.Tie as tie
-use Rattle.build_string.proofs.grown.Reads as reads
-use Rattle.build_string.proofs.grown.Lts as lts
-use Rattle.grow.proofs.add.Reads as add-reads
 
 returns : tie.Need-returns
 returns c =

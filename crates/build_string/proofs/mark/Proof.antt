@@ -4,9 +4,6 @@ use Rattle.build_string.proofs.Walked.{mark-root, giving, mark-row}
 use borrow.Author.Needs.{needs}
 use Rattle.build_string.proofs.mark.Statement.{statement}
 use Rattle.build_string.proofs.mark.Tie as tie
-use Rattle.build_string.proofs.mark.Reads as reads
-use Rattle.build_string.proofs.mark.Lts as lts
-use Rattle.grow.proofs.give.Reads as give-reads
 
 returns : tie.Need-returns
 returns c =

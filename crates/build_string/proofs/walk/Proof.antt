@@ -9,9 +9,6 @@ use Rattle.build_string.proofs.Entered.{state-small}
 use Rattle.build_string.proofs.Walked.{Walking, walk-starts, walk-on, walk-full, walk-ends}
 use Rattle.build_string.proofs.walk.Statement.{statement}
 use Rattle.build_string.proofs.walk.Tie as tie
-use Rattle.build_string.proofs.walk.Reads as reads
-use Rattle.build_string.proofs.walk.Lts as lts
-use Rattle.build_string.proofs.enter.Reads as enter-reads
 
 abbrev Inv-loop : tie.InvT-loop
 Inv-loop buf₀ lo n string l₀ m₀ s₀ row₀ i₀ buf l m s row i =

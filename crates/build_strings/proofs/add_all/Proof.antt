@@ -8,12 +8,6 @@ use Rattle.grow_laws.specs.Held.{view}
 use Rattle.build_strings.proofs.Listed.{Listing, lists-all, listed, len-fits, lists-full, lists-next}
 use Rattle.build_strings.proofs.add_all.Statement.{statement}
 use Rattle.build_strings.proofs.add_all.Tie as tie
-use Rattle.build_strings.proofs.add_all.Reads as reads
-use Rattle.build_strings.proofs.add_all.Lts as lts
-use Rattle.build_string.proofs.add_string.Reads as add-string-reads
-use Rattle.build_strings.proofs.first_code.Reads as first-code-reads
-use Rattle.grow.proofs.larger.Reads as larger-reads
-use Rattle.build_strings.proofs.next_code.Reads as next-code-reads
 
 abbrev Inv-loop : tie.InvT-loop
 Inv-loop buf₀ production tokens lengths rest₀ l₀ n₀ code₀ k₀ i₀ buf rest l n code k i =

@@ -3,8 +3,6 @@ use Rattle.build_strings.proofs.Codes.{opens-empty, opens-some}
 use borrow.Author.Needs.{needs}
 use Rattle.build_strings.proofs.first_code.Statement.{statement}
 use Rattle.build_strings.proofs.first_code.Tie as tie
-use Rattle.build_strings.proofs.first_code.Reads as reads
-use Rattle.build_strings.proofs.first_code.Lts as lts
 
 cast-result : tie.Need-cast-result
 cast-result c = search needs

@@ -3,8 +3,6 @@ use Rattle.build_strings.proofs.Codes.{recodes-root, recodes-none}
 use borrow.Author.Needs.{needs}
 use Rattle.build_strings.proofs.next_code.Statement.{statement}
 use Rattle.build_strings.proofs.next_code.Tie as tie
-use Rattle.build_strings.proofs.next_code.Reads as reads
-use Rattle.build_strings.proofs.next_code.Lts as lts
 
 cast-result : tie.Need-cast-result
 cast-result c = search needs

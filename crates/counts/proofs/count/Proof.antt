@@ -10,9 +10,6 @@ use Rattle.counts.proofs.Arrays.{holds-as, bound}
 use Rattle.counts.proofs.Once.{count-none, count-le, count-row}
 use Rattle.counts.proofs.count.Statement.{statement}
 use Rattle.counts.proofs.count.Tie as tie
-use Rattle.counts.proofs.count.Reads as reads
-use Rattle.counts.proofs.count.Lts as lts
-use Rattle.rows.proofs.numbers.to_at.Reads as to-at-reads
 
 abbrev Inv-loop : tie.InvT-loop
 Inv-loop rows counts₀ i₀ counts i = (i ≤ length rows / 4) × Holds (rows-into (rest rows i)) counts

@@ -11,10 +11,6 @@ use Rattle.counts.proofs.Arrays.{bound}
 use Rattle.counts.proofs.Seen.{see-zero, one-state, seen-le, see-row, see-count}
 use Rattle.counts.proofs.count_states.Statement.{statement}
 use Rattle.counts.proofs.count_states.Tie as tie
-use Rattle.counts.proofs.count_states.Reads as reads
-use Rattle.counts.proofs.count_states.Lts as lts
-use Rattle.rows.proofs.numbers.to_at.Reads as to-at-reads
-use Rattle.counts.proofs.enter.Reads as enter-reads
 
 abbrev Inv-loop : tie.InvT-loop
 Inv-loop rows seen₀ n₀ i₀ seen n i =

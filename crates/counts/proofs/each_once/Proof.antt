@@ -8,8 +8,6 @@ use Rattle.paper.specs.Checks.{each-once}
 use Rattle.counts.proofs.Once.{once-next, once-fails, once-zero}
 use Rattle.counts.proofs.each_once.Statement.{statement}
 use Rattle.counts.proofs.each_once.Tie as tie
-use Rattle.counts.proofs.each_once.Reads as reads
-use Rattle.counts.proofs.each_once.Lts as lts
 
 abbrev Inv-loop : tie.InvT-loop
 Inv-loop rows counts i₀ i =

@@ -3,8 +3,6 @@ use Rattle.counts.proofs.Seen.{entered-before}
 use borrow.Author.Needs.{needs}
 use Rattle.counts.proofs.enter.Statement.{statement}
 use Rattle.counts.proofs.enter.Tie as tie
-use Rattle.counts.proofs.enter.Reads as reads
-use Rattle.counts.proofs.enter.Lts as lts
 
 element-copy-out-if1 : tie.Need-element-copy-out-if1
 element-copy-out-if1 c = search needs

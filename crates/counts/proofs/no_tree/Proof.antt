@@ -4,10 +4,6 @@ use Rattle.counts.proofs.Once.{many, tree-as}
 use borrow.Author.Needs.{needs}
 use Rattle.counts.proofs.no_tree.Statement.{statement}
 use Rattle.counts.proofs.no_tree.Tie as tie
-use Rattle.counts.proofs.no_tree.Reads as reads
-use Rattle.counts.proofs.no_tree.Lts as lts
-use Rattle.counts.proofs.count.Reads as count-reads
-use Rattle.counts.proofs.each_once.Reads as each-once-reads
 
 returns : tie.Need-returns
 returns c = many (c .before .args .rows .now) (c .before .pre) (c .if1 .taken)

@@ -3,9 +3,6 @@ use Rattle.counts.proofs.Arrays.{clear}
 use borrow.Author.Needs.{needs}
 use Rattle.counts.proofs.state_count.Statement.{statement}
 use Rattle.counts.proofs.state_count.Tie as tie
-use Rattle.counts.proofs.state_count.Reads as reads
-use Rattle.counts.proofs.state_count.Lts as lts
-use Rattle.counts.proofs.count_states.Reads as count-states-reads
 
 count-states-requires : tie.Need-count-states-requires
 count-states-requires c κs = (c .before .pre, clear)

@@ -4,10 +4,6 @@ use Rattle.exports.proofs.Fits.{build-fits}
 use borrow.Author.Needs.{needs}
 use Rattle.exports.proofs.lookahead_build.Statement.{statement}
 use Rattle.exports.proofs.lookahead_build.Tie as tie
-use Rattle.exports.proofs.lookahead_build.Reads as reads
-use Rattle.exports.proofs.lookahead_build.Lts as lts
-use Rattle.build.proofs.build.Reads as build-reads
-use Rattle.handed.proofs.made.Reads as made-reads
 
 build-requires : tie.Need-build-requires
 build-requires c κs = search needs

@@ -4,11 +4,6 @@ use Rattle.handed.proofs.Hands.{checked-length, checked-refused, checked-passed
 use borrow.Author.Needs.{needs}
 use Rattle.exports.proofs.lookahead_check.Statement.{statement}
 use Rattle.exports.proofs.lookahead_check.Tie as tie
-use Rattle.exports.proofs.lookahead_check.Reads as reads
-use Rattle.exports.proofs.lookahead_check.Lts as lts
-use Rattle.paper.proofs.Refusal.number.Reads as number-reads
-use Rattle.rows.proofs.checks.row_slice.Reads as row-slice-reads
-use Rattle.rows.proofs.verdict.plain.Reads as plain-reads
 
 row-slice-requires : tie.Need-row-slice-requires
 row-slice-requires c κs = search needs

@@ -2,10 +2,6 @@ use Rattle.rows.proofs.Signed.{same}
 use borrow.Author.Needs.{needs}
 use Rattle.exports.proofs.lookahead_explain.Statement.{statement}
 use Rattle.exports.proofs.lookahead_explain.Tie as tie
-use Rattle.exports.proofs.lookahead_explain.Reads as reads
-use Rattle.exports.proofs.lookahead_explain.Lts as lts
-use Rattle.explain.proofs.matched.Reads as matched-reads
-use Rattle.handed.proofs.explained.Reads as explained-reads
 
 matched-requires : tie.Need-matched-requires
 matched-requires c κs = search needs

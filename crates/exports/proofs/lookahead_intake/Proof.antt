@@ -3,10 +3,6 @@ use Rattle.exports.proofs.Fits.{intake-fits}
 use borrow.Author.Needs.{needs}
 use Rattle.exports.proofs.lookahead_intake.Statement.{statement}
 use Rattle.exports.proofs.lookahead_intake.Tie as tie
-use Rattle.exports.proofs.lookahead_intake.Reads as reads
-use Rattle.exports.proofs.lookahead_intake.Lts as lts
-use Rattle.handed.proofs.made.Reads as made-reads
-use Rattle.intake.proofs.shrunk_table.Reads as shrunk-table-reads
 
 shrunk-table-requires : tie.Need-shrunk-table-requires
 shrunk-table-requires c κs = search needs

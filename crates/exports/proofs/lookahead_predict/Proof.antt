@@ -2,11 +2,6 @@ use Rattle.rows.proofs.Signed.{same}
 use borrow.Author.Needs.{needs}
 use Rattle.exports.proofs.lookahead_predict.Statement.{statement}
 use Rattle.exports.proofs.lookahead_predict.Tie as tie
-use Rattle.exports.proofs.lookahead_predict.Reads as reads
-use Rattle.exports.proofs.lookahead_predict.Lts as lts
-use Rattle.handed.proofs.predicted.Reads as predicted-reads
-use Rattle.handed.proofs.mode_of.Reads as mode-of-reads
-use Rattle.predict.proofs.predict.Reads as predict-reads
 
 mode-of-requires : tie.Need-mode-of-requires
 mode-of-requires c κs = search needs

@@ -4,11 +4,6 @@ use Rattle.exports.proofs.Fits.{shrink-fits}
 use borrow.Author.Needs.{needs}
 use Rattle.exports.proofs.lookahead_shrink.Statement.{statement}
 use Rattle.exports.proofs.lookahead_shrink.Tie as tie
-use Rattle.exports.proofs.lookahead_shrink.Reads as reads
-use Rattle.exports.proofs.lookahead_shrink.Lts as lts
-use Rattle.handed.proofs.made.Reads as made-reads
-use Rattle.handed.proofs.mode_of.Reads as mode-of-reads
-use Rattle.shrink.proofs.shrink.Reads as shrink-reads
 
 mode-of-requires : tie.Need-mode-of-requires
 mode-of-requires c κs = search needs

@@ -3,10 +3,6 @@ use Rattle.handed.proofs.Hands.{first-is, second-is}
 use borrow.Author.Needs.{needs}
 use Rattle.exports.proofs.lookahead_stretch.Statement.{statement}
 use Rattle.exports.proofs.lookahead_stretch.Tie as tie
-use Rattle.exports.proofs.lookahead_stretch.Reads as reads
-use Rattle.exports.proofs.lookahead_stretch.Lts as lts
-use Rattle.explain.proofs.place.Reads as place-reads
-use Rattle.handed.proofs.put.Reads as put-reads
 
 place-requires : tie.Need-place-requires
 place-requires c κs = search needs

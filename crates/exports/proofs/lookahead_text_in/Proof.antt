@@ -3,10 +3,6 @@ use Rattle.exports.proofs.Fits.{text-fits}
 use borrow.Author.Needs.{needs}
 use Rattle.exports.proofs.lookahead_text_in.Statement.{statement}
 use Rattle.exports.proofs.lookahead_text_in.Tie as tie
-use Rattle.exports.proofs.lookahead_text_in.Reads as reads
-use Rattle.exports.proofs.lookahead_text_in.Lts as lts
-use Rattle.handed.proofs.heard.Reads as heard-reads
-use Rattle.text_in.proofs.text_in.Reads as text-in-reads
 
 text-in-requires : tie.Need-text-in-requires
 text-in-requires c κs = search needs

@@ -3,10 +3,6 @@ use Rattle.handed.proofs.Hands.{written-hands}
 use borrow.Author.Needs.{needs}
 use Rattle.exports.proofs.lookahead_text_out.Statement.{statement}
 use Rattle.exports.proofs.lookahead_text_out.Tie as tie
-use Rattle.exports.proofs.lookahead_text_out.Reads as reads
-use Rattle.exports.proofs.lookahead_text_out.Lts as lts
-use Rattle.handed.proofs.wrote.Reads as wrote-reads
-use Rattle.text_out.proofs.text_out.Reads as text-out-reads
 
 text-out-requires : tie.Need-text-out-requires
 text-out-requires c κs = search needs

@@ -4,11 +4,6 @@ use Rattle.exports.proofs.Fits.{unite-fits}
 use borrow.Author.Needs.{needs}
 use Rattle.exports.proofs.lookahead_unite.Statement.{statement}
 use Rattle.exports.proofs.lookahead_unite.Tie as tie
-use Rattle.exports.proofs.lookahead_unite.Reads as reads
-use Rattle.exports.proofs.lookahead_unite.Lts as lts
-use Rattle.handed.proofs.made.Reads as made-reads
-use Rattle.handed.proofs.mode_of.Reads as mode-of-reads
-use Rattle.unite.proofs.unite.Reads as unite-reads
 
 mode-of-requires : tie.Need-mode-of-requires
 mode-of-requires c κs = search needs

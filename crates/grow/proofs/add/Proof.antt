@@ -9,11 +9,6 @@ use Rattle.grow_laws.proofs.Placed.{place-within, added}
 use borrow.Author.Needs.{needs}
 use Rattle.grow.proofs.add.Statement.{statement}
 use Rattle.grow.proofs.add.Tie as tie
-use Rattle.grow.proofs.add.Reads as reads
-use Rattle.grow.proofs.add.Lts as lts
-use Rattle.grow_ends.proofs.insert.Reads as insert-reads
-use Rattle.rows.proofs.numbers.number_of.Reads as number-of-reads
-use Rattle.rows.proofs.numbers.production_of.Reads as production-of-reads
 
 cast-number-of : tie.Need-cast-number-of
 cast-number-of c = search needs

@@ -2,9 +2,6 @@ use borrow.Author.Needs.{needs}
 use Rattle.grow_laws.proofs.Viewed.{reach, code-read}
 use Rattle.grow.proofs.code_at.Statement.{statement}
 use Rattle.grow.proofs.code_at.Tie as tie
-use Rattle.grow.proofs.code_at.Reads as reads
-use Rattle.grow.proofs.code_at.Lts as lts
-use Rattle.rows.proofs.numbers.code_at.Reads as code-at-reads
 
 add-code-at : tie.Need-add-code-at
 add-code-at c = let h = reach (c .args .buf .now) (c .args .lo) (c .args .n) (c .pre .0) in search needs

@@ -11,8 +11,6 @@ use Rattle.rows.proofs.Signed.{back}
 use Rattle.grow_laws.proofs.Fronts.{part, part-next, part-all}
 use Rattle.grow.proofs.copy_front.Statement.{statement}
 use Rattle.grow.proofs.copy_front.Tie as tie
-use Rattle.grow.proofs.copy_front.Reads as reads
-use Rattle.grow.proofs.copy_front.Lts as lts
 
 abbrev Inv-loop : tie.InvT-loop
 Inv-loop src out₀ i₀ out i = (i ≤ length src) × (length out ≡ length out₀) × (out ≡ part src out₀ i)

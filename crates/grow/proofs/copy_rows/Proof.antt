@@ -6,9 +6,6 @@ use Rattle.grow_laws.proofs.Viewed.{part-is, back-is}
 use borrow.Author.Needs.{needs}
 use Rattle.grow.proofs.copy_rows.Statement.{statement}
 use Rattle.grow.proofs.copy_rows.Tie as tie
-use Rattle.grow.proofs.copy_rows.Reads as reads
-use Rattle.grow.proofs.copy_rows.Lts as lts
-use Rattle.grow.proofs.copy_front.Reads as copy-front-reads
 
 mul-copy-front : tie.Need-mul-copy-front
 mul-copy-front c = search needs

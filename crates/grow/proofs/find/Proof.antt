@@ -9,9 +9,6 @@ use Rattle.grow_laws.proofs.Viewed.{reach, rows-part, seeks}
 use borrow.Author.Needs.{needs}
 use Rattle.grow.proofs.find.Statement.{statement}
 use Rattle.grow.proofs.find.Tie as tie
-use Rattle.grow.proofs.find.Reads as reads
-use Rattle.grow.proofs.find.Lts as lts
-use Rattle.search.proofs.find.Reads as find-reads
 
 mul-first : tie.Need-mul-first
 mul-first c = let h = reach (c .args .buf .now) (c .args .lo) (c .args .n) (c .pre .0) in search needs

@@ -10,10 +10,6 @@ use Rattle.grow_laws.proofs.Viewed.{reach, rows-part}
 use borrow.Author.Needs.{needs}
 use Rattle.grow.proofs.finish.Statement.{statement}
 use Rattle.grow.proofs.finish.Tie as tie
-use Rattle.grow.proofs.finish.Reads as reads
-use Rattle.grow.proofs.finish.Lts as lts
-use Rattle.grow.proofs.copy_front.Reads as copy-front-reads
-use Rattle.rows.proofs.numbers.production_of.Reads as production-of-reads
 
 mul-first : tie.Need-mul-first
 mul-first c = let h = reach (c .args .buf .now) (c .args .lo) (c .args .n) (c .pre .0) in search needs

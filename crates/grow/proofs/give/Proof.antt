@@ -8,9 +8,6 @@ use Rattle.grow_laws.proofs.Viewed.{reach, view-set}
 use borrow.Author.Needs.{needs}
 use Rattle.grow.proofs.give.Statement.{statement}
 use Rattle.grow.proofs.give.Tie as tie
-use Rattle.grow.proofs.give.Reads as reads
-use Rattle.grow.proofs.give.Lts as lts
-use Rattle.rows.proofs.numbers.production_of.Reads as production-of-reads
 
 production-of-requires : tie.Need-production-of-requires
 production-of-requires c κs = search needs

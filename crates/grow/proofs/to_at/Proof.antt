@@ -3,9 +3,6 @@ use borrow.Author.Needs.{needs}
 use Rattle.grow_laws.proofs.Viewed.{reach, to-read}
 use Rattle.grow.proofs.to_at.Statement.{statement}
 use Rattle.grow.proofs.to_at.Tie as tie
-use Rattle.grow.proofs.to_at.Reads as reads
-use Rattle.grow.proofs.to_at.Lts as lts
-use Rattle.rows.proofs.numbers.to_at.Reads as to-at-reads
 
 add-to-at : tie.Need-add-to-at
 add-to-at c = let h = reach (c .args .buf .now) (c .args .lo) (c .args .n) (c .pre .0) in search needs

@@ -7,9 +7,6 @@ use Rattle.grow_laws.proofs.Viewed.{reached, part, part-long, moved-up}
 use borrow.Author.Needs.{needs}
 use Rattle.grow_ends.proofs.above.Statement.{statement}
 use Rattle.grow_ends.proofs.above.Tie as tie
-use Rattle.grow_ends.proofs.above.Reads as reads
-use Rattle.grow_ends.proofs.above.Lts as lts
-use Rattle.grow_moves.proofs.up.insert_row.Reads as insert-row-reads
 
 mul-insert-row : tie.Need-mul-insert-row
 mul-insert-row c = let h = reached (c .args .buf .now) (c .args .lo) (c .pre .2) in search needs

@@ -8,9 +8,6 @@ use Rattle.grow_laws.proofs.Viewed.{reached, part, part-long, moved-down}
 use borrow.Author.Needs.{needs}
 use Rattle.grow_ends.proofs.below.Statement.{statement}
 use Rattle.grow_ends.proofs.below.Tie as tie
-use Rattle.grow_ends.proofs.below.Reads as reads
-use Rattle.grow_ends.proofs.below.Lts as lts
-use Rattle.grow_moves.proofs.down.insert_row.Reads as insert-row-reads
 
 sub-low : tie.Need-sub-low
 sub-low c = search needs

@@ -3,11 +3,6 @@ use Rattle.grow_laws.proofs.PutIn.{inserted-as, slid-inserted}
 use borrow.Author.Needs.{needs}
 use Rattle.grow_ends.proofs.insert.Statement.{statement}
 use Rattle.grow_ends.proofs.insert.Tie as tie
-use Rattle.grow_ends.proofs.insert.Reads as reads
-use Rattle.grow_ends.proofs.insert.Lts as lts
-use Rattle.grow_ends.proofs.above.Reads as above-reads
-use Rattle.grow_ends.proofs.below.Reads as below-reads
-use Rattle.grow_ends.proofs.spare.Reads as spare-reads
 
 spare-requires : tie.Need-spare-requires
 spare-requires c κs = search needs

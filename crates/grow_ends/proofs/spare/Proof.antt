@@ -3,9 +3,6 @@ use Rattle.grow_laws.proofs.Viewed.{slid}
 use borrow.Author.Needs.{needs}
 use Rattle.grow_ends.proofs.spare.Statement.{statement}
 use Rattle.grow_ends.proofs.spare.Tie as tie
-use Rattle.grow_ends.proofs.spare.Reads as reads
-use Rattle.grow_ends.proofs.spare.Lts as lts
-use Rattle.grow_moves.proofs.up.open_rows.Reads as open-rows-reads
 
 returns : tie.Need-returns
 returns c = search needs

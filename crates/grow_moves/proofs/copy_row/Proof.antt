@@ -4,9 +4,6 @@ use Rattle.grow_laws.proofs.Shifted.{over-same}
 use borrow.Author.Needs.{needs}
 use Rattle.grow_moves.proofs.copy_row.Statement.{statement}
 use Rattle.grow_moves.proofs.copy_row.Tie as tie
-use Rattle.grow_moves.proofs.copy_row.Reads as reads
-use Rattle.grow_moves.proofs.copy_row.Lts as lts
-use Rattle.grow_moves.proofs.put_row.Reads as put-row-reads
 
 mul-w : tie.Need-mul-w
 mul-w c = search needs

@@ -6,8 +6,6 @@ use Rattle.grow_laws.proofs.Shifted.{stored, over-same}
 use borrow.Author.Needs.{needs}
 use Rattle.grow_moves.proofs.put_row.Statement.{statement}
 use Rattle.grow_moves.proofs.put_row.Tie as tie
-use Rattle.grow_moves.proofs.put_row.Reads as reads
-use Rattle.grow_moves.proofs.put_row.Lts as lts
 
 mul-w : tie.Need-mul-w
 mul-w c = search needs

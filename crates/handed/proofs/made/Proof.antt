@@ -3,11 +3,6 @@ use Rattle.handed.proofs.Hands.{first-is}
 use borrow.Author.Needs.{needs}
 use Rattle.handed.proofs.made.Statement.{statement}
 use Rattle.handed.proofs.made.Tie as tie
-use Rattle.handed.proofs.made.Reads as reads
-use Rattle.handed.proofs.made.Lts as lts
-use Rattle.handed.proofs.put.Reads as put-reads
-use Rattle.handed.proofs.refused.Reads as refused-reads
-use Rattle.rows.proofs.numbers.coded.Reads as coded-reads
 
 enum-known-said : tie.Need-enum-known-said
 enum-known-said c = search needs

@@ -5,8 +5,6 @@ use Rattle.handed.specs.Handed.{mode-of}
 use borrow.Author.Needs.{needs}
 use Rattle.handed.proofs.mode_of.Statement.{statement}
 use Rattle.handed.proofs.mode_of.Tie as tie
-use Rattle.handed.proofs.mode_of.Reads as reads
-use Rattle.handed.proofs.mode_of.Lts as lts
 
 -- any number but 0
 not-zero : (n : ℕ) → (n ≡ 0 → ⊥) → Intake ≡ mode-of n

@@ -13,11 +13,6 @@ use Rattle.shrink.proofs.Parts.{
 use borrow.Author.Needs.{needs}
 use Rattle.shrink.proofs.shrink.Statement.{statement}
 use Rattle.shrink.proofs.shrink.Tie as tie
-use Rattle.shrink.proofs.shrink.Reads as reads
-use Rattle.shrink.proofs.shrink.Lts as lts
-use Rattle.rows.proofs.checks.row_slice.Reads as row-slice-reads
-use Rattle.ruled.proofs.verdict.ruled.Reads as ruled-reads
-use Rattle.shrink.proofs.shrink_ruled.Reads as shrink-ruled-reads
 
 row-slice-requires : tie.Need-row-slice-requires
 row-slice-requires c κs = search needs

@@ -7,11 +7,6 @@ use Rattle.shrink.proofs.Parts.{shape-rows, classes-named}
 use borrow.Author.Needs.{needs}
 use Rattle.shrink.proofs.shrink_indexed.Statement.{statement}
 use Rattle.shrink.proofs.shrink_indexed.Tie as tie
-use Rattle.shrink.proofs.shrink_indexed.Reads as reads
-use Rattle.shrink.proofs.shrink_indexed.Lts as lts
-use Rattle.shrink_classes.proofs.classes.classes.Reads as classes-reads
-use Rattle.shrink_classes.proofs.classes.top.Reads as top-reads
-use Rattle.shrink.proofs.write.Reads as write-reads
 
 top-requires : tie.Need-top-requires
 top-requires c κs = (c .pre .0 .1, fitting (c .pre .0 .0 .passed) (c .pre .0 .0 .few))

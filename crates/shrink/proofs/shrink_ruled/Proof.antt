@@ -11,12 +11,6 @@ use Rattle.shrink.proofs.Parts.{sound-passed, sound-fitting, sound-shap
 use borrow.Author.Needs.{needs}
 use Rattle.shrink.proofs.shrink_ruled.Statement.{statement}
 use Rattle.shrink.proofs.shrink_ruled.Tie as tie
-use Rattle.shrink.proofs.shrink_ruled.Reads as reads
-use Rattle.shrink.proofs.shrink_ruled.Lts as lts
-use Rattle.rows.proofs.numbers.coded.Reads as coded-reads
-use Rattle.ruled.proofs.into.mark.Reads as mark-reads
-use Rattle.shrink_alike.proofs.index.firsts.Reads as firsts-reads
-use Rattle.shrink.proofs.shrink_indexed.Reads as shrink-indexed-reads
 
 coded-requires : tie.Need-coded-requires
 coded-requires c κs = search needs

@@ -2,10 +2,6 @@ use Rattle.shrink_alike.proofs.Begins.{filled}
 use borrow.Author.Needs.{needs}
 use Rattle.shrink.proofs.write.Statement.{statement}
 use Rattle.shrink.proofs.write.Tie as tie
-use Rattle.shrink.proofs.write.Reads as reads
-use Rattle.shrink.proofs.write.Lts as lts
-use Rattle.shrink_rows.proofs.emit.emit.Reads as emit-reads
-use Rattle.shrink_places.proofs.places.Reads as places-reads
 
 places-requires : tie.Need-places-requires
 places-requires c κs =

@@ -6,9 +6,6 @@ use Rattle.shrink_places.proofs.Counting.{place-held, place-fresh}
 use borrow.Author.Needs.{needs}
 use Rattle.shrink_places.proofs.place.Statement.{statement}
 use Rattle.shrink_places.proofs.place.Tie as tie
-use Rattle.shrink_places.proofs.place.Reads as reads
-use Rattle.shrink_places.proofs.place.Lts as lts
-use Rattle.shrink_alike.proofs.index.at.Reads as at-reads
 
 at-requires : tie.Need-at-requires
 at-requires c κs = search needs

@@ -6,10 +6,6 @@ use Rattle.shrink_alike.specs.Faces.{coded, mark-in}
 use Rattle.shrink_places.proofs.Counting.{Counting, count-start, count-skip, count-more, count-end, heads-rise}
 use Rattle.shrink_places.proofs.places.Statement.{statement}
 use Rattle.shrink_places.proofs.places.Tie as tie
-use Rattle.shrink_places.proofs.places.Reads as reads
-use Rattle.shrink_places.proofs.places.Lts as lts
-use Rattle.shrink_classes.proofs.classes.is_state.Reads as is-state-reads
-use Rattle.shrink_places.proofs.place.Reads as place-reads
 
 abbrev Inv-loop : tie.InvT-loop
 Inv-loop rows into class top number₀ m₀ s₀ number m s = (s ≤ top) × Counting (coded 0 rows) class number m s

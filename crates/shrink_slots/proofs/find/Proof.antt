@@ -7,10 +7,6 @@ use Rattle.shrink_slots.proofs.Walked.{slot-small}
 use Rattle.shrink_slots.proofs.Slotted.{walk-start, walk-near, walk-next}
 use Rattle.shrink_slots.proofs.find.Statement.{statement}
 use Rattle.shrink_slots.proofs.find.Tie as tie
-use Rattle.shrink_slots.proofs.find.Reads as reads
-use Rattle.shrink_slots.proofs.find.Lts as lts
-use Rattle.shrink_slots.proofs.passes.Reads as passes-reads
-use Rattle.shrink_slots.proofs.slot.Reads as slot-reads
 
 abbrev Inv-loop : tie.InvT-loop
 Inv-loop mode p0 rows into first class slots s g d₀ at₀ d at = Walks (like mode (coded p0 rows) (mark-in class)) slots

@@ -5,10 +5,6 @@ use borrow.Author.Needs.{needs}
 use Rattle.shrink_slots.proofs.Slotted.{passes-empty, passes-held}
 use Rattle.shrink_slots.proofs.passes.Statement.{statement}
 use Rattle.shrink_slots.proofs.passes.Tie as tie
-use Rattle.shrink_slots.proofs.passes.Reads as reads
-use Rattle.shrink_slots.proofs.passes.Lts as lts
-use Rattle.shrink_alike.proofs.index.at.Reads as at-reads
-use Rattle.shrink_alike.proofs.same.like.Reads as like-reads
 
 at-requires : tie.Need-at-requires
 at-requires c κs = search needs

@@ -5,8 +5,6 @@ use Rattle.shrink_slots.specs.Slots.{slot}
 use Rattle.shrink_slots.proofs.Walked.{step-short}
 use Rattle.shrink_slots.proofs.slot.Statement.{statement}
 use Rattle.shrink_slots.proofs.slot.Tie as tie
-use Rattle.shrink_slots.proofs.slot.Reads as reads
-use Rattle.shrink_slots.proofs.slot.Lts as lts
 
 mul-result : tie.Need-mul-result
 mul-result c = search needs

@@ -13,12 +13,6 @@ use Rattle.unite.proofs.Outcomes.{clash-refuses, rows-make, union-as, c
 use borrow.Author.Needs.{needs}
 use Rattle.unite.proofs.joined.Statement.{statement}
 use Rattle.unite.proofs.joined.Tie as tie
-use Rattle.unite.proofs.joined.Reads as reads
-use Rattle.unite.proofs.joined.Lts as lts
-use Rattle.grow.proofs.copy_rows.Reads as copy-rows-reads
-use Rattle.grow.proofs.finish.Reads as finish-reads
-use Rattle.unite.proofs.full.Reads as full-reads
-use Rattle.unite_taking.proofs.take_rows.Reads as take-rows-reads
 
 slice-aggregate-copy-rows : tie.Need-slice-aggregate-copy-rows
 slice-aggregate-copy-rows c = search needs

@@ -16,11 +16,6 @@ use Rattle.unite.proofs.Outcomes.{judges-as, passes-as, second-as}
 use borrow.Author.Needs.{needs}
 use Rattle.unite.proofs.unite.Statement.{statement}
 use Rattle.unite.proofs.unite.Tie as tie
-use Rattle.unite.proofs.unite.Reads as reads
-use Rattle.unite.proofs.unite.Lts as lts
-use Rattle.rows.proofs.checks.row_slice.Reads as row-slice-reads
-use Rattle.ruled.proofs.verdict.tree.Reads as tree-reads
-use Rattle.unite.proofs.with_second.Reads as with-second-reads
 
 row-slice-requires : tie.Need-row-slice-requires
 row-slice-requires c κs = search needs

@@ -14,12 +14,6 @@ use Rattle.unite.proofs.Outcomes.{root-refuses, root-makes}
 use borrow.Author.Needs.{needs}
 use Rattle.unite.proofs.united.Statement.{statement}
 use Rattle.unite.proofs.united.Tie as tie
-use Rattle.unite.proofs.united.Reads as reads
-use Rattle.unite.proofs.united.Lts as lts
-use Rattle.rows.proofs.numbers.coded.Reads as coded-reads
-use Rattle.unite.proofs.joined.Reads as joined-reads
-use Rattle.unite_meet.proofs.root.Reads as root-reads
-use Rattle.unite_meet.proofs.united_k.Reads as united-k-reads
 
 coded-requires : tie.Need-coded-requires
 coded-requires c κs = search needs

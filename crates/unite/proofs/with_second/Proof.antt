@@ -13,10 +13,6 @@ use Rattle.unite.proofs.Outcomes.{checks-refuse, checks-pass, judges-as
 use borrow.Author.Needs.{needs}
 use Rattle.unite.proofs.with_second.Statement.{statement}
 use Rattle.unite.proofs.with_second.Tie as tie
-use Rattle.unite.proofs.with_second.Reads as reads
-use Rattle.unite.proofs.with_second.Lts as lts
-use Rattle.ruled.proofs.verdict.tree.Reads as tree-reads
-use Rattle.unite.proofs.united.Reads as united-reads
 
 tree-requires : tie.Need-tree-requires
 tree-requires c κs = search needs

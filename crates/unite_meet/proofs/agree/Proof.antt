@@ -2,8 +2,6 @@ use Rattle.unite_meet.proofs.Meets.{agree-none, agree-first, agree-same
 use borrow.Author.Needs.{needs}
 use Rattle.unite_meet.proofs.agree.Statement.{statement}
 use Rattle.unite_meet.proofs.agree.Tie as tie
-use Rattle.unite_meet.proofs.agree.Reads as reads
-use Rattle.unite_meet.proofs.agree.Lts as lts
 
 returns : tie.Need-returns
 returns c = (c .before .pre .1, agree-none (c .before .args .p) (c .before .args .q) (c .if1 .taken))

@@ -3,9 +3,6 @@ use Rattle.unite_meet.proofs.Meets.{intake-root, archive-root}
 use borrow.Author.Needs.{needs}
 use Rattle.unite_meet.proofs.root.Statement.{statement}
 use Rattle.unite_meet.proofs.root.Tie as tie
-use Rattle.unite_meet.proofs.root.Reads as reads
-use Rattle.unite_meet.proofs.root.Lts as lts
-use Rattle.unite_meet.proofs.agree.Reads as agree-reads
 
 enum-told : tie.Need-enum-told
 enum-told c = search needs

@@ -5,9 +5,6 @@ use Rattle.unite_meet.proofs.Meets.{intake-taken, archive-taken, archiv
 use borrow.Author.Needs.{needs}
 use Rattle.unite_meet.proofs.taken.Statement.{statement}
 use Rattle.unite_meet.proofs.taken.Tie as tie
-use Rattle.unite_meet.proofs.taken.Reads as reads
-use Rattle.unite_meet.proofs.taken.Lts as lts
-use Rattle.unite_meet.proofs.agree.Reads as agree-reads
 
 agree-requires : tie.Need-agree-requires
 agree-requires c κs = search needs

@@ -2,9 +2,6 @@ use Rattle.unite_meet.proofs.Meets.{intake-k, archive-k}
 use borrow.Author.Needs.{needs}
 use Rattle.unite_meet.proofs.united_k.Statement.{statement}
 use Rattle.unite_meet.proofs.united_k.Tie as tie
-use Rattle.unite_meet.proofs.united_k.Reads as reads
-use Rattle.unite_meet.proofs.united_k.Lts as lts
-use Rattle.grow.proofs.larger.Reads as larger-reads
 
 larger-requires : tie.Need-larger-requires
 larger-requires c κs = search needs

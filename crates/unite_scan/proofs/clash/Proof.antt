@@ -13,13 +13,6 @@ use Rattle.unite_scan.proofs.Scanning.{Scanning, scan-begins, scan-ends
 use Rattle.unite_scan.proofs.Scanning.{looks-as}
 use Rattle.unite_scan.proofs.clash.Statement.{statement}
 use Rattle.unite_scan.proofs.clash.Tie as tie
-use Rattle.unite_scan.proofs.clash.Reads as reads
-use Rattle.unite_scan.proofs.clash.Lts as lts
-use Rattle.rows.proofs.numbers.code_at.Reads as code-at-reads
-use Rattle.rows.proofs.numbers.from_at.Reads as from-at-reads
-use Rattle.rows.proofs.numbers.terminal_at.Reads as terminal-at-reads
-use Rattle.rows.proofs.numbers.to_at.Reads as to-at-reads
-use Rattle.unite_scan.proofs.look_up.Reads as look-up-reads
 
 abbrev Inv-loop : tie.InvT-loop
 Inv-loop mode a b map₀ i₀ map i = Scanning mode (rows-in a) b map i

@@ -7,11 +7,6 @@ use Rattle.unite_scan.proofs.Looked.{hit-clash, hit-match}
 use borrow.Author.Needs.{needs}
 use Rattle.unite_scan.proofs.hit.Statement.{statement}
 use Rattle.unite_scan.proofs.hit.Tie as tie
-use Rattle.unite_scan.proofs.hit.Reads as reads
-use Rattle.unite_scan.proofs.hit.Lts as lts
-use Rattle.rows.proofs.numbers.code_at.Reads as code-at-reads
-use Rattle.rows.proofs.numbers.to_at.Reads as to-at-reads
-use Rattle.unite_meet.proofs.taken.Reads as taken-reads
 
 to-at-requires : tie.Need-to-at-requires
 to-at-requires c κs = search needs

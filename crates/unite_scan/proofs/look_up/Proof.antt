@@ -9,10 +9,6 @@ use Rattle.unite_scan.proofs.Looked.{look-none, seek-is, look-missing}
 use borrow.Author.Needs.{needs}
 use Rattle.unite_scan.proofs.look_up.Statement.{statement}
 use Rattle.unite_scan.proofs.look_up.Tie as tie
-use Rattle.unite_scan.proofs.look_up.Reads as reads
-use Rattle.unite_scan.proofs.look_up.Lts as lts
-use Rattle.search.proofs.find.Reads as find-reads
-use Rattle.unite_scan.proofs.hit.Reads as hit-reads
 
 returns : tie.Need-returns
 returns c =

@@ -4,9 +4,6 @@ use Rattle.unite_taking.proofs.Rowed.{adds-over, adds-row}
 use borrow.Author.Needs.{needs}
 use Rattle.unite_taking.proofs.added.Statement.{statement}
 use Rattle.unite_taking.proofs.added.Tie as tie
-use Rattle.unite_taking.proofs.added.Reads as reads
-use Rattle.unite_taking.proofs.added.Lts as lts
-use Rattle.grow.proofs.add.Reads as add-reads
 
 returns : tie.Need-returns
 returns c mode =

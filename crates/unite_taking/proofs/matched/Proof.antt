@@ -4,12 +4,6 @@ use Rattle.unite_taking.proofs.Rowed.{matches-clash, gives}
 use borrow.Author.Needs.{needs}
 use Rattle.unite_taking.proofs.matched.Statement.{statement}
 use Rattle.unite_taking.proofs.matched.Tie as tie
-use Rattle.unite_taking.proofs.matched.Reads as reads
-use Rattle.unite_taking.proofs.matched.Lts as lts
-use Rattle.grow.proofs.code_at.Reads as code-at-reads
-use Rattle.grow.proofs.give.Reads as give-reads
-use Rattle.grow.proofs.to_at.Reads as to-at-reads
-use Rattle.unite_meet.proofs.taken.Reads as taken-reads
 
 to-at-requires : tie.Need-to-at-requires
 to-at-requires c κs = search needs

@@ -8,11 +8,6 @@ use Rattle.unite_taking.specs.Taking.{taking, Takes}
 use borrow.Author.Needs.{needs}
 use Rattle.unite_taking.proofs.take_row.Statement.{statement}
 use Rattle.unite_taking.proofs.take_row.Tie as tie
-use Rattle.unite_taking.proofs.take_row.Reads as reads
-use Rattle.unite_taking.proofs.take_row.Lts as lts
-use Rattle.grow.proofs.find.Reads as find-reads
-use Rattle.unite_taking.proofs.added.Reads as added-reads
-use Rattle.unite_taking.proofs.matched.Reads as matched-reads
 
 find-requires : tie.Need-find-requires
 find-requires c κs = search needs

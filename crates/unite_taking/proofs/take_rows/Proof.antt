@@ -18,13 +18,6 @@ use Rattle.unite_taking.proofs.Steps.{one-row, as-one-row}
 use Rattle.unite_taking.proofs.Ongoing.{Ongoing, begins, ends, row-fit, from-is, clashes, overflows, goes-on}
 use Rattle.unite_taking.proofs.take_rows.Statement.{statement}
 use Rattle.unite_taking.proofs.take_rows.Tie as tie
-use Rattle.unite_taking.proofs.take_rows.Reads as reads
-use Rattle.unite_taking.proofs.take_rows.Lts as lts
-use Rattle.rows.proofs.numbers.code_at.Reads as code-at-reads
-use Rattle.rows.proofs.numbers.from_at.Reads as from-at-reads
-use Rattle.rows.proofs.numbers.terminal_at.Reads as terminal-at-reads
-use Rattle.rows.proofs.numbers.to_at.Reads as to-at-reads
-use Rattle.unite_taking.proofs.take_row.Reads as take-row-reads
 
 abbrev Inv-loop : tie.InvT-loop
 Inv-loop mode buf₀ lo count b map₀ l₀ n₀ i₀ buf map l n i =

@@ -5,10 +5,6 @@ use Rattle.grow_laws.proofs.Lowered.{fill-low}
 use borrow.Author.Needs.{needs}
 use Rattle.grow_moves.proofs.down.insert_row.Statement.{statement}
 use Rattle.grow_moves.proofs.down.insert_row.Tie as tie
-use Rattle.grow_moves.proofs.down.insert_row.Reads as reads
-use Rattle.grow_moves.proofs.down.insert_row.Lts as lts
-use Rattle.grow_moves.proofs.down.lower_rows.Reads as lower-rows-reads
-use Rattle.grow_moves.proofs.put_row.Reads as put-row-reads
 
 lower-rows-requires : tie.Need-lower-rows-requires
 lower-rows-requires c κs = search needs

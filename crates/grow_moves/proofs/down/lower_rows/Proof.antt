@@ -9,10 +9,6 @@ use Rattle.grow_laws.proofs.Lowered.{lower-none, lower-step, lower-four}
 use borrow.Author.Needs.{needs}
 use Rattle.grow_moves.proofs.down.lower_rows.Statement.{statement}
 use Rattle.grow_moves.proofs.down.lower_rows.Tie as tie
-use Rattle.grow_moves.proofs.down.lower_rows.Reads as reads
-use Rattle.grow_moves.proofs.down.lower_rows.Lts as lts
-use Rattle.grow_moves.proofs.down.move_four.Reads as move-four-reads
-use Rattle.grow_moves.proofs.copy_row.Reads as copy-row-reads
 
 abbrev Inv-loop : tie.InvT-loop
 Inv-loop buf₀ p i₀ buf i = (i ≤ p) × (length buf ≡ length buf₀) × (buf ≡ lowered buf₀ i)

@@ -7,9 +7,6 @@ use Rattle.grow_laws.specs.Moves.{copied}
 use borrow.Author.Needs.{needs}
 use Rattle.grow_moves.proofs.down.move_four.Statement.{statement}
 use Rattle.grow_moves.proofs.down.move_four.Tie as tie
-use Rattle.grow_moves.proofs.down.move_four.Reads as reads
-use Rattle.grow_moves.proofs.down.move_four.Lts as lts
-use Rattle.grow_moves.proofs.copy_row.Reads as copy-row-reads
 
 add-copy-row : tie.Need-add-copy-row
 add-copy-row c = search needs

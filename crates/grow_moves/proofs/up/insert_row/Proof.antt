@@ -5,10 +5,6 @@ use Rattle.grow_laws.proofs.Shifted.{over-same, fill}
 use borrow.Author.Needs.{needs}
 use Rattle.grow_moves.proofs.up.insert_row.Statement.{statement}
 use Rattle.grow_moves.proofs.up.insert_row.Tie as tie
-use Rattle.grow_moves.proofs.up.insert_row.Reads as reads
-use Rattle.grow_moves.proofs.up.insert_row.Lts as lts
-use Rattle.grow_moves.proofs.up.open_rows.Reads as open-rows-reads
-use Rattle.grow_moves.proofs.put_row.Reads as put-row-reads
 
 open-rows-requires : tie.Need-open-rows-requires
 open-rows-requires c κs = search needs

@@ -9,10 +9,6 @@ use Rattle.grow_laws.specs.Moves.{up-row, up-four, opened}
 use Rattle.grow_laws.proofs.Shifted.{open-none, open-step, open-four}
 use Rattle.grow_moves.proofs.up.open_rows.Statement.{statement}
 use Rattle.grow_moves.proofs.up.open_rows.Tie as tie
-use Rattle.grow_moves.proofs.up.open_rows.Reads as reads
-use Rattle.grow_moves.proofs.up.open_rows.Lts as lts
-use Rattle.grow_moves.proofs.up.move_four.Reads as move-four-reads
-use Rattle.grow_moves.proofs.copy_row.Reads as copy-row-reads
 
 abbrev Inv-loop : tie.InvT-loop
 Inv-loop buf₀ d n p i₀ buf i = (p ≤ i) × (i ≤ n) × (length buf ≡ length buf₀) × (buf ≡ opened buf₀ d n i)

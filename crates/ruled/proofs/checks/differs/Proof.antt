@@ -6,11 +6,6 @@ use Rattle.ruled.proofs.Splits.{first-read, differs-mark}
 use borrow.Author.Needs.{needs}
 use Rattle.ruled.proofs.checks.differs.Statement.{statement}
 use Rattle.ruled.proofs.checks.differs.Tie as tie
-use Rattle.ruled.proofs.checks.differs.Reads as reads
-use Rattle.ruled.proofs.checks.differs.Lts as lts
-use Rattle.rows.proofs.numbers.code_at.Reads as code-at-reads
-use Rattle.rows.proofs.numbers.to_at.Reads as to-at-reads
-use Rattle.ruled.proofs.into.wide.Reads as wide-reads
 
 to-at-requires : tie.Need-to-at-requires
 to-at-requires c κs = search needs

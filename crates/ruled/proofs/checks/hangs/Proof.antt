@@ -7,9 +7,6 @@ use Rattle.ruled.proofs.Hanging.{hang-zero, hang-mark}
 use borrow.Author.Needs.{needs}
 use Rattle.ruled.proofs.checks.hangs.Statement.{statement}
 use Rattle.ruled.proofs.checks.hangs.Tie as tie
-use Rattle.ruled.proofs.checks.hangs.Reads as reads
-use Rattle.ruled.proofs.checks.hangs.Lts as lts
-use Rattle.rows.proofs.numbers.from_at.Reads as from-at-reads
 
 from-at-requires : tie.Need-from-at-requires
 from-at-requires c κs = search needs

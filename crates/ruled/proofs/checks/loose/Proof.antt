@@ -10,9 +10,6 @@ use Rattle.rows.proofs.Rest.{any-next, any-here, any-end}
 use Rattle.ruled.specs.Into.{hangs}
 use Rattle.ruled.proofs.checks.loose.Statement.{statement}
 use Rattle.ruled.proofs.checks.loose.Tie as tie
-use Rattle.ruled.proofs.checks.loose.Reads as reads
-use Rattle.ruled.proofs.checks.loose.Lts as lts
-use Rattle.ruled.proofs.checks.hangs.Reads as hangs-reads
 
 abbrev Inv-loop : tie.InvT-loop
 Inv-loop rows into n i₀ i = any (hangs (rows-in rows)) (rows-in rows) ≡ any (hangs (rows-in rows)) (rest rows i)

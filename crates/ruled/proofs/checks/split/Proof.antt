@@ -11,9 +11,6 @@ use Rattle.ruled.specs.Into.{differs}
 use Rattle.ruled.proofs.Splits.{split-first}
 use Rattle.ruled.proofs.checks.split.Statement.{statement}
 use Rattle.ruled.proofs.checks.split.Tie as tie
-use Rattle.ruled.proofs.checks.split.Reads as reads
-use Rattle.ruled.proofs.checks.split.Lts as lts
-use Rattle.ruled.proofs.checks.differs.Reads as differs-reads
 
 abbrev Inv-loop : tie.InvT-loop
 Inv-loop rows into n i₀ i = any (differs (rows-in rows)) (rows-in rows) ≡ any (differs (rows-in rows)) (rest rows i)

@@ -10,9 +10,6 @@ use Rattle.counts.proofs.Arrays.{holds-as, bound}
 use Rattle.ruled.proofs.Firsts.{into-end, mark-row}
 use Rattle.ruled.proofs.into.mark.Statement.{statement}
 use Rattle.ruled.proofs.into.mark.Tie as tie
-use Rattle.ruled.proofs.into.mark.Reads as reads
-use Rattle.ruled.proofs.into.mark.Lts as lts
-use Rattle.rows.proofs.numbers.to_at.Reads as to-at-reads
 
 abbrev Inv-loop : tie.InvT-loop
 Inv-loop rows into₀ i₀ into i = (i ≤ length rows / 4) × Holds (into-from i (rest rows i)) into

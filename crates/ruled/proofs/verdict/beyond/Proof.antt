@@ -6,12 +6,6 @@ use Rattle.counts.proofs.Arrays.{clear}
 use borrow.Author.Needs.{needs}
 use Rattle.ruled.proofs.verdict.beyond.Statement.{statement}
 use Rattle.ruled.proofs.verdict.beyond.Tie as tie
-use Rattle.ruled.proofs.verdict.beyond.Reads as reads
-use Rattle.ruled.proofs.verdict.beyond.Lts as lts
-use Rattle.rows.proofs.checks.shape.Reads as shape-reads
-use Rattle.ruled.proofs.checks.loose.Reads as loose-reads
-use Rattle.ruled.proofs.checks.split.Reads as split-reads
-use Rattle.ruled.proofs.into.mark.Reads as mark-reads
 
 shape-requires : tie.Need-shape-requires
 shape-requires c κs = search needs

@@ -8,10 +8,6 @@ use Rattle.ruled.proofs.Passes.{fitting}
 use borrow.Author.Needs.{needs}
 use Rattle.ruled.proofs.verdict.ruled.Statement.{statement}
 use Rattle.ruled.proofs.verdict.ruled.Tie as tie
-use Rattle.ruled.proofs.verdict.ruled.Reads as reads
-use Rattle.ruled.proofs.verdict.ruled.Lts as lts
-use Rattle.rows.proofs.verdict.plain.Reads as plain-reads
-use Rattle.ruled.proofs.verdict.beyond.Reads as beyond-reads
 
 plain-requires : tie.Need-plain-requires
 plain-requires c κs = search needs

@@ -9,9 +9,6 @@ use Rattle.shrink_alike.specs.Index.{from-first}
 use Rattle.shrink_alike.proofs.Begins.{from-end, first-row}
 use Rattle.shrink_alike.proofs.index.firsts.Statement.{statement}
 use Rattle.shrink_alike.proofs.index.firsts.Tie as tie
-use Rattle.shrink_alike.proofs.index.firsts.Reads as reads
-use Rattle.shrink_alike.proofs.index.firsts.Lts as lts
-use Rattle.rows.proofs.numbers.from_at.Reads as from-at-reads
 
 abbrev Inv-loop : tie.InvT-loop
 Inv-loop rows first₀ i₀ first i = (i ≤ length rows / 4) × Holds (from-first i (rest rows i)) first

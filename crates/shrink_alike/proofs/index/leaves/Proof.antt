@@ -2,9 +2,6 @@ use borrow.Author.Tests.{le-ltb, lt-ltb}
 use borrow.Author.Needs.{needs}
 use Rattle.shrink_alike.proofs.index.leaves.Statement.{statement}
 use Rattle.shrink_alike.proofs.index.leaves.Tie as tie
-use Rattle.shrink_alike.proofs.index.leaves.Reads as reads
-use Rattle.shrink_alike.proofs.index.leaves.Lts as lts
-use Rattle.rows.proofs.numbers.from_at.Reads as from-at-reads
 
 returns : tie.Need-returns
 returns c = rw (le-ltb _ _ (c .if1 .taken))

@@ -2,8 +2,6 @@ use Rattle.shrink_alike.proofs.Productions.{compared-intake, compared-a
 use borrow.Author.Needs.{needs}
 use Rattle.shrink_alike.proofs.same.compared.Statement.{statement}
 use Rattle.shrink_alike.proofs.same.compared.Tie as tie
-use Rattle.shrink_alike.proofs.same.compared.Reads as reads
-use Rattle.shrink_alike.proofs.same.compared.Lts as lts
 
 enum-told : tie.Need-enum-told
 enum-told c = search needs

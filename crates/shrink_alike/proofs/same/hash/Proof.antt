@@ -10,12 +10,6 @@ use Rattle.shrink_alike.proofs.Alike.{left, hash-start, hash-next, hash
 use borrow.Author.Needs.{needs}
 use Rattle.shrink_alike.proofs.same.hash.Statement.{statement}
 use Rattle.shrink_alike.proofs.same.hash.Tie as tie
-use Rattle.shrink_alike.proofs.same.hash.Reads as reads
-use Rattle.shrink_alike.proofs.same.hash.Lts as lts
-use Rattle.rows.proofs.numbers.terminal_at.Reads as terminal-at-reads
-use Rattle.shrink_alike.proofs.index.at.Reads as at-reads
-use Rattle.shrink_alike.proofs.index.leaves.Reads as leaves-reads
-use Rattle.shrink_alike.proofs.same.to_mark.Reads as to-mark-reads
 
 abbrev Inv-loop : tie.InvT-loop
 Inv-loop rows first class s h r₀ i₀ r i = Standing rows s i × (r < 65521)

@@ -5,11 +5,6 @@ use Rattle.shrink_alike.proofs.Alike.{like-not, like-cut, like-rows}
 use borrow.Author.Needs.{needs}
 use Rattle.shrink_alike.proofs.same.like.Statement.{statement}
 use Rattle.shrink_alike.proofs.same.like.Tie as tie
-use Rattle.shrink_alike.proofs.same.like.Reads as reads
-use Rattle.shrink_alike.proofs.same.like.Lts as lts
-use Rattle.shrink_alike.proofs.same.compared.Reads as compared-reads
-use Rattle.shrink_alike.proofs.same.production.Reads as production-reads
-use Rattle.shrink_alike.proofs.same.same_rows.Reads as same-rows-reads
 
 production-requires : tie.Need-production-requires
 production-requires c κs = search needs

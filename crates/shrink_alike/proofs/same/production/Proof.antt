@@ -4,10 +4,6 @@ use Rattle.shrink_alike.proofs.Productions.{production-none, production
 use borrow.Author.Needs.{needs}
 use Rattle.shrink_alike.proofs.same.production.Statement.{statement}
 use Rattle.shrink_alike.proofs.same.production.Tie as tie
-use Rattle.shrink_alike.proofs.same.production.Reads as reads
-use Rattle.shrink_alike.proofs.same.production.Lts as lts
-use Rattle.rows.proofs.numbers.code_at.Reads as code-at-reads
-use Rattle.shrink_alike.proofs.index.at.Reads as at-reads
 
 at-requires : tie.Need-at-requires
 at-requires c κs = search needs

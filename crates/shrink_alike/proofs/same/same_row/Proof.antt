@@ -3,10 +3,6 @@ use Rattle.shrink_alike.specs.Faces.{same-row}
 use borrow.Author.Needs.{needs}
 use Rattle.shrink_alike.proofs.same.same_row.Statement.{statement}
 use Rattle.shrink_alike.proofs.same.same_row.Tie as tie
-use Rattle.shrink_alike.proofs.same.same_row.Reads as reads
-use Rattle.shrink_alike.proofs.same.same_row.Lts as lts
-use Rattle.rows.proofs.numbers.terminal_at.Reads as terminal-at-reads
-use Rattle.shrink_alike.proofs.same.to_mark.Reads as to-mark-reads
 
 terminal-at-requires : tie.Need-terminal-at-requires
 terminal-at-requires c κs = search needs

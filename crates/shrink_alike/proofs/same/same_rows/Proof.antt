@@ -12,11 +12,6 @@ use Rattle.shrink_alike.proofs.Alike.{left, alike-start, alike-next, al
 use borrow.Author.Needs.{needs}
 use Rattle.shrink_alike.proofs.same.same_rows.Statement.{statement}
 use Rattle.shrink_alike.proofs.same.same_rows.Tie as tie
-use Rattle.shrink_alike.proofs.same.same_rows.Reads as reads
-use Rattle.shrink_alike.proofs.same.same_rows.Lts as lts
-use Rattle.shrink_alike.proofs.index.at.Reads as at-reads
-use Rattle.shrink_alike.proofs.index.leaves.Reads as leaves-reads
-use Rattle.shrink_alike.proofs.same.same_row.Reads as same-row-reads
 
 abbrev Inv-loop : tie.InvT-loop
 Inv-loop rows first class a b i₀ j₀ i j = Standing rows a i × Standing rows b j

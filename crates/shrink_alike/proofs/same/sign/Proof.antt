@@ -4,11 +4,6 @@ use Rattle.shrink_alike.proofs.Alike.{sign-rows, sign-alone}
 use borrow.Author.Needs.{needs}
 use Rattle.shrink_alike.proofs.same.sign.Statement.{statement}
 use Rattle.shrink_alike.proofs.same.sign.Tie as tie
-use Rattle.shrink_alike.proofs.same.sign.Reads as reads
-use Rattle.shrink_alike.proofs.same.sign.Lts as lts
-use Rattle.shrink_alike.proofs.same.compared.Reads as compared-reads
-use Rattle.shrink_alike.proofs.same.hash.Reads as hash-reads
-use Rattle.shrink_alike.proofs.same.production.Reads as production-reads
 
 production-requires : tie.Need-production-requires
 production-requires c κs = search needs

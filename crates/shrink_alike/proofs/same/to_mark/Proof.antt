@@ -5,10 +5,6 @@ use Rattle.shrink_alike.specs.Faces.{mark-in}
 use borrow.Author.Needs.{needs}
 use Rattle.shrink_alike.proofs.same.to_mark.Statement.{statement}
 use Rattle.shrink_alike.proofs.same.to_mark.Tie as tie
-use Rattle.shrink_alike.proofs.same.to_mark.Reads as reads
-use Rattle.shrink_alike.proofs.same.to_mark.Lts as lts
-use Rattle.rows.proofs.numbers.to_at.Reads as to-at-reads
-use Rattle.shrink_alike.proofs.index.at.Reads as at-reads
 
 to-at-requires : tie.Need-to-at-requires
 to-at-requires c κs = search needs

@@ -2,9 +2,6 @@ use Rattle.shrink_alike.proofs.Begins.{filled}
 use borrow.Author.Needs.{needs}
 use Rattle.shrink_classes.proofs.classes.classes.Statement.{statement}
 use Rattle.shrink_classes.proofs.classes.classes.Tie as tie
-use Rattle.shrink_classes.proofs.classes.classes.Reads as reads
-use Rattle.shrink_classes.proofs.classes.classes.Lts as lts
-use Rattle.shrink_classes.proofs.classes.classify.Reads as classify-reads
 
 classify-requires : tie.Need-classify-requires
 classify-requires c κs =

@@ -6,10 +6,6 @@ use Rattle.shrink_classes.specs.Classes.{Classed}
 use Rattle.shrink_classes.proofs.Pass.{pass-start, pass-more, pass-skip, pass-end, pass-open}
 use Rattle.shrink_classes.proofs.classes.classify.Statement.{statement}
 use Rattle.shrink_classes.proofs.classes.classify.Tie as tie
-use Rattle.shrink_classes.proofs.classes.classify.Reads as reads
-use Rattle.shrink_classes.proofs.classes.classify.Lts as lts
-use Rattle.shrink_classes.proofs.classes.is_state.Reads as is-state-reads
-use Rattle.shrink_classes.proofs.classes.settle.Reads as settle-reads
 
 abbrev Inv-loop : tie.InvT-loop
 Inv-loop mode p0 rows into first top slots₀ class₀ s₀ slots class s = (s ≤ top)

@@ -2,9 +2,6 @@ use Rattle.shrink_classes.proofs.Entered.{tells-zero, tells-entered}
 use borrow.Author.Needs.{needs}
 use Rattle.shrink_classes.proofs.classes.is_state.Statement.{statement}
 use Rattle.shrink_classes.proofs.classes.is_state.Tie as tie
-use Rattle.shrink_classes.proofs.classes.is_state.Reads as reads
-use Rattle.shrink_classes.proofs.classes.is_state.Lts as lts
-use Rattle.shrink_alike.proofs.index.at.Reads as at-reads
 
 returns : tie.Need-returns
 returns c = tells-zero (c .before .args .rows .now) (c .before .args .s) (c .if1 .taken)

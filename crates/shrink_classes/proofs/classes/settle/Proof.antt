@@ -8,11 +8,6 @@ use Rattle.shrink_slots.proofs.Slotted.{stop-inside}
 use borrow.Author.Needs.{needs}
 use Rattle.shrink_classes.proofs.classes.settle.Statement.{statement}
 use Rattle.shrink_classes.proofs.classes.settle.Tie as tie
-use Rattle.shrink_classes.proofs.classes.settle.Reads as reads
-use Rattle.shrink_classes.proofs.classes.settle.Lts as lts
-use Rattle.shrink_alike.proofs.index.at.Reads as at-reads
-use Rattle.shrink_alike.proofs.same.sign.Reads as sign-reads
-use Rattle.shrink_slots.proofs.find.Reads as find-reads
 
 sign-requires : tie.Need-sign-requires
 sign-requires c κs = search needs

@@ -3,9 +3,6 @@ use native.Mathlib.Omega.{arith}
 use Rattle.shrink_classes.proofs.Entered.{Above, above-all, above-less, topped, topped-zero}
 use Rattle.shrink_classes.proofs.classes.top.Statement.{statement}
 use Rattle.shrink_classes.proofs.classes.top.Tie as tie
-use Rattle.shrink_classes.proofs.classes.top.Reads as reads
-use Rattle.shrink_classes.proofs.classes.top.Lts as lts
-use Rattle.shrink_alike.proofs.index.at.Reads as at-reads
 
 abbrev Inv-loop : tie.InvT-loop
 Inv-loop rows into s₀ s = (s ≤ 1023) × Above rows s

@@ -21,11 +21,6 @@ use Rattle.shrink_rows.proofs.Emitting.{
 }
 use Rattle.shrink_rows.proofs.emit.emit.Statement.{statement}
 use Rattle.shrink_rows.proofs.emit.emit.Tie as tie
-use Rattle.shrink_rows.proofs.emit.emit.Reads as reads
-use Rattle.shrink_rows.proofs.emit.emit.Lts as lts
-use Rattle.shrink_rows.proofs.emit.emit_state.Reads as emit-state-reads
-use Rattle.shrink_rows.proofs.emit.is_head.Reads as is-head-reads
-use Rattle.shrink_alike.proofs.index.at.Reads as at-reads
 
 abbrev Inv-loop : tie.InvT-loop
 Inv-loop rows into first class number top out₀ m₀ o₀ s₀ out m o s = (s ≤ top)

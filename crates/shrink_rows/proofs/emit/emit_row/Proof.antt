@@ -12,14 +12,6 @@ use Rattle.shrink_rows.proofs.Writing.{written-row, stored, stored-prod
 use borrow.Author.Needs.{needs}
 use Rattle.shrink_rows.proofs.emit.emit_row.Statement.{statement}
 use Rattle.shrink_rows.proofs.emit.emit_row.Tie as tie
-use Rattle.shrink_rows.proofs.emit.emit_row.Reads as reads
-use Rattle.shrink_rows.proofs.emit.emit_row.Lts as lts
-use Rattle.rows.proofs.numbers.code_at.Reads as code-at-reads
-use Rattle.rows.proofs.numbers.number_of.Reads as number-of-reads
-use Rattle.rows.proofs.numbers.production_of.Reads as production-of-reads
-use Rattle.rows.proofs.numbers.terminal_at.Reads as terminal-at-reads
-use Rattle.shrink_alike.proofs.index.at.Reads as at-reads
-use Rattle.shrink_alike.proofs.same.to_mark.Reads as to-mark-reads
 
 to-mark-requires : tie.Need-to-mark-requires
 to-mark-requires c κs = search needs

@@ -11,11 +11,6 @@ use Rattle.shrink_rows.proofs.Emitting.{Emitting, emit-start, emit-room
 use borrow.Author.Needs.{needs}
 use Rattle.shrink_rows.proofs.emit.emit_state.Statement.{statement}
 use Rattle.shrink_rows.proofs.emit.emit_state.Tie as tie
-use Rattle.shrink_rows.proofs.emit.emit_state.Reads as reads
-use Rattle.shrink_rows.proofs.emit.emit_state.Lts as lts
-use Rattle.shrink_rows.proofs.emit.emit_row.Reads as emit-row-reads
-use Rattle.shrink_alike.proofs.index.at.Reads as at-reads
-use Rattle.shrink_alike.proofs.index.leaves.Reads as leaves-reads
 
 abbrev Inv-loop : tie.InvT-loop
 Inv-loop rows first class number h f at out₀ i₀ o₀ out i o = Emitting rows class number h f out₀ out at o i

@@ -13,10 +13,6 @@ use Rattle.shrink_places.proofs.Counting.{no-head, head-tells}
 use borrow.Author.Needs.{needs}
 use Rattle.shrink_rows.proofs.emit.is_head.Statement.{statement}
 use Rattle.shrink_rows.proofs.emit.is_head.Tie as tie
-use Rattle.shrink_rows.proofs.emit.is_head.Reads as reads
-use Rattle.shrink_rows.proofs.emit.is_head.Lts as lts
-use Rattle.shrink_classes.proofs.classes.is_state.Reads as is-state-reads
-use Rattle.shrink_alike.proofs.index.at.Reads as at-reads
 
 is-state-requires : tie.Need-is-state-requires
 is-state-requires c κs = search needs
