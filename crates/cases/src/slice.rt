@@ -18,6 +18,22 @@ pub fn after(numbers: &[usize], n: usize) -> &[usize] {
     }
 }
 
+// The numbers behind a count that stands at a place of a case.
+pub fn counted(case: &[usize], place: usize) -> &[usize] {
+    let head = after(case, place);
+    front_lengths(after(head, 1), at(head, 0))
+}
+
+// The place behind them.
+pub fn past(case: &[usize], place: usize) -> usize {
+    behind(place, 1, at(case, place))
+}
+
+// The place behind a head and as many numbers. No case has a million.
+fn behind(place: usize, head: usize, count: usize) -> usize {
+    place % 1000000 + head % 1000000 + count % 1000000
+}
+
 // The head of a table, how many numbers its rows have, and the place behind them.
 pub struct Head {
     pub prod0: i32,
@@ -29,17 +45,17 @@ pub struct Head {
 // The table at a place of a case, its rows to the front of a slice, as far as both reach.
 pub fn table(case: &[usize], place: usize, rows: &mut [i32]) -> Head {
     let head = after(case, place);
-    let count = at(head, 2);
-    numbers(front_lengths(after(head, 3), count), rows);
+    signed(counted(head, 2), rows);
     Head {
         prod0: number::signed(at(head, 0)),
         k: at(head, 1),
-        count,
-        next: behind(place, 3, count),
+        count: at(head, 2),
+        next: behind(place, 3, at(head, 2)),
     }
 }
 
-fn numbers(numbers: &[usize], out: &mut [i32]) {
+// Signed numbers to the front of a slice, as far as both reach.
+pub fn signed(numbers: &[usize], out: &mut [i32]) {
     let mut i = 0;
     while i < numbers.len() && i < out.len() {
         out[i] = number::signed(numbers[i]);
@@ -47,40 +63,42 @@ fn numbers(numbers: &[usize], out: &mut [i32]) {
     }
 }
 
-// The place behind a head and as many numbers. No case has a million.
-fn behind(place: usize, head: usize, count: usize) -> usize {
-    place % 1000000 + head % 1000000 + count % 1000000
-}
-
-// The tokens at a place of a case, to the front of a slice, as far as both reach; the place behind them.
-pub fn tokens(case: &[usize], place: usize, out: &mut [u16]) -> usize {
-    let head = after(case, place);
-    let numbers = front_lengths(after(head, 1), at(head, 0));
+// Tokens to the front of a slice, as far as both reach.
+pub fn tokens(numbers: &[usize], out: &mut [u16]) {
     let mut i = 0;
     while i < numbers.len() && i < out.len() {
-        out[i] = (numbers[i] % 65536) as u16;
+        out[i] = token(numbers[i]);
         i += 1;
     }
-    behind(place, 1, numbers.len())
+}
+
+pub fn token(number: usize) -> u16 {
+    (number % 65536) as u16
 }
 
 // Whether two slices hold the same numbers.
 pub fn is_same(a: &[usize], b: &[usize]) -> bool {
+    if a.len() != b.len() {
+        return false;
+    }
     let mut i = 0;
     while i < a.len() {
-        if b.len() <= i || a[i] != b[i] {
+        if a[i] != b[i] {
             return false;
         }
         i += 1;
     }
-    i == b.len()
+    true
 }
 
 // Whether a slice begins with the signed numbers of a case.
 pub fn begins(out: &[i32], numbers: &[usize]) -> bool {
+    if out.len() < numbers.len() {
+        return false;
+    }
     let mut i = 0;
     while i < numbers.len() {
-        if out.len() <= i || out[i] != number::signed(numbers[i]) {
+        if out[i] != number::signed(numbers[i]) {
             return false;
         }
         i += 1;
@@ -115,7 +133,7 @@ fn mark(i: usize) -> i32 {
     (1000000000 + i % 1000) as i32
 }
 
-pub fn fill(out: &mut [i32]) {
+fn fill(out: &mut [i32]) {
     let mut i = 0;
     while i < out.len() {
         out[i] = mark(i);
@@ -150,6 +168,15 @@ pub fn front_tokens(xs: &[u16], n: usize) -> &[u16] {
 
 pub fn front_lengths(xs: &[usize], n: usize) -> &[usize] {
     if xs.len() < n { xs } else { &xs[..n] }
+}
+
+// The last n of a slice, or all of it.
+pub fn back_bytes(xs: &[u8], n: usize) -> &[u8] {
+    if xs.len() < n {
+        xs
+    } else {
+        &xs[xs.len() - n..]
+    }
 }
 
 // Fills a slice with the pattern, and gives the length that a case lends of it. The contract is what `&mut out[..n]` asks.

@@ -49,15 +49,12 @@ fn sum(low: u8, middle: u8, high: u8) -> usize {
     low as usize + middle as usize * 256 + high as usize * 65536
 }
 
-// Counts a case, and names it by its place among them if it is one of the first few that are wrong.
-pub fn count(counts: &mut [usize], outcome: Outcome) {
-    name(slice::at(counts, CASES), counts, outcome);
-    add(counts, outcome);
-}
-
-// Names a case that is wrong, unless some were named.
-pub fn name(index: usize, counts: &[usize], outcome: Outcome) {
-    if outcome.right || 5 <= slice::at(counts, WRONG) {
+// Names a case that is wrong, unless some of its call were named.
+pub fn name(index: usize, counts: &[usize], right: bool) {
+    if right {
+        return;
+    }
+    if 5 <= slice::at(counts, WRONG) {
         return;
     }
     io::write_all(STDOUT_FILENO, b"case ");
@@ -65,18 +62,19 @@ pub fn name(index: usize, counts: &[usize], outcome: Outcome) {
     io::write_all(STDOUT_FILENO, b" wrong\n");
 }
 
-// Counts a case.
-pub fn add(counts: &mut [usize], outcome: Outcome) {
-    more(counts, CASES);
-    more(counts, outcome.number);
+// Counts a case of the call whose counts start there.
+pub fn add(counts: &mut [usize], start: usize, outcome: Outcome) {
+    more(counts, start, CASES);
+    more(counts, start, outcome.number);
     if !outcome.right {
-        more(counts, WRONG);
+        more(counts, start, WRONG);
     }
 }
 
-pub fn more(counts: &mut [usize], i: usize) {
-    if i < counts.len() {
-        counts[i] = counts[i] % 1000000 + 1;
+pub fn more(counts: &mut [usize], start: usize, i: usize) {
+    let place = start % 1000000 + i % 1000000;
+    if place < counts.len() {
+        counts[place] = counts[place] % 1000000 + 1;
     }
 }
 

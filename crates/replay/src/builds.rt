@@ -5,17 +5,17 @@ use cases::slice;
 use cases::tally::Outcome;
 
 // The call, with as much of the output as the case says.
-pub fn asked(case: &[usize], tokens: &mut [u16], out: &mut [i32]) -> Outcome {
-    let n = slice::at(case, 1);
-    let lengths = slice::after(case, 2);
-    let next = slice::tokens(lengths, n, tokens);
-    let rest = slice::after(lengths, next);
+pub fn asked(case: &[usize], out: &mut [i32]) -> Outcome {
+    let mut tokens = [0u16; 20000];
+    let place = slice::past(case, 1);
+    slice::tokens(slice::counted(case, place), &mut tokens);
+    let rest = slice::after(case, slice::past(case, place));
     let room = slice::lent(rest, out);
     let making = build::build(
         number::signed(slice::at(case, 0)),
-        slice::front_tokens(tokens, slice::at(lengths, n)),
-        slice::front_lengths(lengths, n),
+        slice::front_tokens(&tokens, slice::at(case, place)),
+        slice::counted(case, 1),
         &mut out[..room],
     );
-    answer::compared(rest, making, out)
+    answer::compared(slice::after(rest, 1), making, out)
 }

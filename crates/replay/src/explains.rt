@@ -6,15 +6,17 @@ use explain::Part;
 use paper::Explanation;
 
 // The three calls of one table.
-pub fn asked(case: &[usize], rows: &mut [i32], tokens: &mut [u16]) -> Outcome {
-    let table = slice::table(case, 0, rows);
-    let next = slice::tokens(case, table.next, tokens);
+pub fn asked(case: &[usize]) -> Outcome {
+    let mut rows = [0i32; 20000];
+    let mut tokens = [0u16; 20000];
+    let table = slice::table(case, 0, &mut rows);
+    slice::tokens(slice::counted(case, table.next), &mut tokens);
     called(
-        slice::after(case, next),
+        slice::after(case, slice::past(case, table.next)),
         table.prod0,
         table.k,
-        slice::front_numbers(rows, table.count),
-        slice::front_tokens(tokens, slice::at(case, table.next)),
+        slice::front_numbers(&rows, table.count),
+        slice::front_tokens(&tokens, slice::at(case, table.next)),
     )
 }
 
@@ -40,5 +42,8 @@ fn called(expected: &[usize], prod0: i32, k: usize, rows: &[i32], tokens: &[u16]
 }
 
 fn is_stretch(part: &[i32], rows: &[i32], lies: Part) -> bool {
-    part.len() == lies.count && slice::is_part(part, rows, lies.start)
+    if part.len() != lies.count {
+        return false;
+    }
+    slice::is_part(part, rows, lies.start)
 }

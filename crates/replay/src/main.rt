@@ -2,8 +2,10 @@
 // list's. A name behind some cases says what they show.
 mod builds;
 mod explains;
+mod intakes;
 mod predicts;
 mod shrinks;
+mod texts;
 mod unites;
 
 use cases::number;
@@ -13,25 +15,13 @@ use cases::tally::Outcome;
 use libc::STDOUT_FILENO;
 
 // The counts: 17 for each call, then how many cases the list had so far, and how many of the last were right.
-const CASES: usize = 85;
+const CASES: usize = 119;
 
-const RIGHT: usize = 86;
+const RIGHT: usize = 120;
 
 fn main() {
-    let mut bytes = [0u8; 131072];
-    let mut numbers = [0usize; 131072];
-    let mut rows = [0i32; 20000];
-    let mut tokens = [0u16; 20000];
-    let mut out = [0i32; 20000];
-    let mut counts = [0usize; 87];
-    replay(
-        &mut bytes,
-        &mut numbers,
-        &mut rows,
-        &mut tokens,
-        &mut out,
-        &mut counts,
-    );
+    let mut counts = [0usize; 121];
+    replay(&mut counts);
     report(&counts);
 }
 
@@ -42,6 +32,8 @@ fn report(counts: &[usize]) {
     of_call(b"shrink\n", counts, 34);
     of_call(b"predict\n", counts, 51);
     of_call(b"explain\n", counts, 68);
+    of_call(b"intake\n", counts, 85);
+    of_call(b"text\n", counts, 102);
 }
 
 fn of_call(name: &[u8], counts: &[usize], start: usize) {
@@ -50,67 +42,62 @@ fn of_call(name: &[u8], counts: &[usize], start: usize) {
 }
 
 // More turns than the list has cases and names.
-fn replay(
-    bytes: &mut [u8],
-    numbers: &mut [usize],
-    rows: &mut [i32],
-    tokens: &mut [u16],
-    out: &mut [i32],
-    counts: &mut [usize],
-) {
+fn replay(counts: &mut [usize]) {
+    let mut bytes = [0u8; 131072];
+    let mut numbers = [0usize; 131072];
     let mut turns: usize = 1000000;
-    while turns > 0 && one(bytes, numbers, rows, tokens, out, counts) {
+    while turns > 0 && one(&mut bytes, &mut numbers, counts) {
         turns -= 1;
     }
 }
 
 // Whether there was a case or a name.
-fn one(
-    bytes: &mut [u8],
-    numbers: &mut [usize],
-    rows: &mut [i32],
-    tokens: &mut [u16],
-    out: &mut [i32],
-    counts: &mut [usize],
-) -> bool {
+fn one(bytes: &mut [u8], numbers: &mut [usize], counts: &mut [usize]) -> bool {
     let n = tally::next(bytes);
     if n == 0 {
         return false;
     }
     let bytes = slice::front_bytes(bytes, n);
     let first = number::read(bytes, numbers);
-    let case = slice::after(numbers, first);
-    let call = slice::at(case, 0);
-    if 4 < call {
-        named(bytes, slice::at(case, 1), slice::at(counts, RIGHT));
-        return true;
-    }
-    count(counts, call * 17, asked(call, case, rows, tokens, out));
+    told(bytes, slice::after(numbers, first), counts);
     true
 }
 
-// A case, which stands behind its call and its source.
-fn asked(
-    call: usize,
-    whole: &[usize],
-    rows: &mut [i32],
-    tokens: &mut [u16],
-    out: &mut [i32],
-) -> Outcome {
-    let case = slice::after(whole, 2);
+// A name, or a case, which stands behind its call and its source.
+fn told(bytes: &[u8], whole: &[usize], counts: &mut [usize]) {
+    let call = slice::at(whole, 0);
+    if 6 < call {
+        named(bytes, slice::at(whole, 1), slice::at(counts, RIGHT));
+        return;
+    }
+    count(
+        counts,
+        call * 17,
+        asked(call, slice::after(whole, 2), bytes),
+    );
+}
+
+fn asked(call: usize, case: &[usize], bytes: &[u8]) -> Outcome {
+    let mut out = [0i32; 20000];
     if call == 0 {
-        return builds::asked(case, tokens, out);
+        return builds::asked(case, &mut out);
     }
     if call == 1 {
-        return unites::asked(case, rows, out);
+        return unites::asked(case, &mut out);
     }
     if call == 2 {
-        return shrinks::asked(case, rows, out);
+        return shrinks::asked(case, &mut out);
     }
     if call == 3 {
-        return predicts::asked(case, rows, tokens);
+        return predicts::asked(case);
     }
-    explains::asked(case, rows, tokens)
+    if call == 4 {
+        return explains::asked(case);
+    }
+    if call == 5 {
+        return intakes::asked(case, &mut out);
+    }
+    texts::asked(case, bytes, &mut out)
 }
 
 // Counts a case of the call whose counts start there.
@@ -118,17 +105,11 @@ fn count(counts: &mut [usize], start: usize, outcome: Outcome) {
     tally::name(
         slice::at(counts, CASES),
         slice::after(counts, start),
-        outcome,
+        outcome.right,
     );
-    add(counts, start, outcome);
-    tally::more(counts, CASES);
+    tally::add(counts, start, outcome);
+    tally::more(counts, CASES, 0);
     run(counts, outcome.right);
-}
-
-fn add(counts: &mut [usize], start: usize, outcome: Outcome) {
-    if start <= counts.len() {
-        tally::add(&mut counts[start..], outcome);
-    }
 }
 
 // One more that was right, or none.

@@ -5,24 +5,25 @@ use cases::tally::Outcome;
 use paper::Prediction;
 
 // The call, and its answer compared.
-pub fn asked(case: &[usize], rows: &mut [i32], tokens: &mut [u16]) -> Outcome {
-    let mode = answer::mode(slice::at(case, 0));
-    let table = slice::table(case, 1, rows);
+pub fn asked(case: &[usize]) -> Outcome {
+    let mut rows = [0i32; 20000];
+    let mut tokens = [0u16; 20000];
+    let table = slice::table(case, 1, &mut rows);
     let stream = slice::after(case, table.next);
-    let next = slice::tokens(stream, 1, tokens);
+    slice::tokens(slice::counted(stream, 1), &mut tokens);
     let prediction = predict::predict(
-        mode,
+        answer::mode(slice::at(case, 0)),
         table.prod0,
         table.k,
-        slice::front_numbers(rows, table.count),
+        slice::front_numbers(&rows, table.count),
         slice::at(stream, 0),
-        slice::front_tokens(tokens, slice::at(stream, 1)),
+        slice::front_tokens(&tokens, slice::at(stream, 1)),
     );
-    compared(slice::after(stream, next), prediction)
+    compared(slice::after(stream, slice::past(stream, 1)), prediction)
 }
 
-// The production and the rows entered, or the refusal's number.
-fn compared(expected: &[usize], prediction: Prediction) -> Outcome {
+// The production and the rows entered, or the refusal's number and two 0.
+pub fn compared(expected: &[usize], prediction: Prediction) -> Outcome {
     match prediction {
         Prediction::Predicted {
             production,
@@ -32,7 +33,7 @@ fn compared(expected: &[usize], prediction: Prediction) -> Outcome {
             answer::outcome(expected, &numbers)
         }
         Prediction::Refused(refusal) => {
-            let numbers = [refusal.number()];
+            let numbers = [refusal.number(), 0, 0];
             answer::outcome(expected, &numbers)
         }
     }

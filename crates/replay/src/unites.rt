@@ -4,22 +4,22 @@ use cases::slice;
 use cases::tally::Outcome;
 
 // The call, with as much of the output as the case says.
-pub fn asked(case: &[usize], rows: &mut [i32], out: &mut [i32]) -> Outcome {
+pub fn asked(case: &[usize], out: &mut [i32]) -> Outcome {
+    let mut rows = [0i32; 20000];
     let mut others = [0i32; 20000];
-    let mode = answer::mode(slice::at(case, 0));
-    let first = slice::table(case, 1, rows);
+    let first = slice::table(case, 1, &mut rows);
     let second = slice::table(case, first.next, &mut others);
     let rest = slice::after(case, second.next);
     let room = slice::lent(rest, out);
     let making = unite::unite(
-        mode,
+        answer::mode(slice::at(case, 0)),
         first.prod0,
         first.k,
-        slice::front_numbers(rows, first.count),
+        slice::front_numbers(&rows, first.count),
         second.prod0,
         second.k,
         slice::front_numbers(&others, second.count),
         &mut out[..room],
     );
-    answer::compared(rest, making, out)
+    answer::compared(slice::after(rest, 1), making, out)
 }

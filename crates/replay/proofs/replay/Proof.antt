@@ -6,16 +6,19 @@ use Rattle.replay.proofs.replay.Statement.{statement}
 use Rattle.replay.proofs.replay.Tie as tie
 
 abbrev Inv-loop : tie.InvT-loop
-Inv-loop bytes₀ numbers₀ rows₀ tokens₀ out₀ counts₀ turns₀ bytes numbers rows tokens out counts turns =
-    (length bytes ≡ length bytes₀) × (length numbers ≡ length numbers₀) × (length rows ≡ length rows₀)
-    × (length tokens ≡ length tokens₀) × (length out ≡ length out₀) × (length counts ≡ length counts₀)
+Inv-loop counts₀ bytes₀ numbers₀ turns₀ counts bytes numbers turns = (length counts ≡ length counts₀) × (131072 ≡ length bytes) × (131072 ≡ length numbers)
 
 abbrev μ-loop : tie.MeasureT-loop
-μ-loop bytes₀ numbers₀ rows₀ tokens₀ out₀ counts₀ turns₀ bytes numbers rows tokens out counts turns =
-    turns
+μ-loop counts₀ bytes₀ numbers₀ turns₀ counts bytes numbers turns = turns
 
 loop-holds : tie.Need-loop-holds Inv-loop μ-loop
 loop-holds c = search needs
+
+slice-aggregate-one : tie.Need-slice-aggregate-one Inv-loop μ-loop
+slice-aggregate-one c = search needs
+
+slice-aggregate-one-2 : tie.Need-slice-aggregate-one-2 Inv-loop μ-loop
+slice-aggregate-one-2 c = search needs
 
 one-requires : tie.Need-one-requires Inv-loop μ-loop
 one-requires c κs = search needs
@@ -32,41 +35,11 @@ loop-again c = search needs
 same-length : tie.Need-same-length Inv-loop μ-loop
 same-length c = search needs
 
-same-length-2 : tie.Need-same-length-2 Inv-loop μ-loop
-same-length-2 c = search needs
-
-same-length-3 : tie.Need-same-length-3 Inv-loop μ-loop
-same-length-3 c = search needs
-
-same-length-4 : tie.Need-same-length-4 Inv-loop μ-loop
-same-length-4 c = search needs
-
-same-length-5 : tie.Need-same-length-5 Inv-loop μ-loop
-same-length-5 c = search needs
-
-same-length-6 : tie.Need-same-length-6 Inv-loop μ-loop
-same-length-6 c = search needs
-
 returns : tie.Need-returns Inv-loop μ-loop
 returns c = search needs
 
-same-length-7 : tie.Need-same-length-7 Inv-loop μ-loop
-same-length-7 c = search needs
-
-same-length-8 : tie.Need-same-length-8 Inv-loop μ-loop
-same-length-8 c = search needs
-
-same-length-9 : tie.Need-same-length-9 Inv-loop μ-loop
-same-length-9 c = search needs
-
-same-length-10 : tie.Need-same-length-10 Inv-loop μ-loop
-same-length-10 c = search needs
-
-same-length-11 : tie.Need-same-length-11 Inv-loop μ-loop
-same-length-11 c = search needs
-
-same-length-12 : tie.Need-same-length-12 Inv-loop μ-loop
-same-length-12 c = search needs
+same-length-2 : tie.Need-same-length-2 Inv-loop μ-loop
+same-length-2 c = search needs
 
 returns-2 : tie.Need-returns-2 Inv-loop μ-loop
 returns-2 c = search needs
@@ -78,21 +51,13 @@ replay-spec =
     Inv-loop
     μ-loop
     loop-holds
+    slice-aggregate-one
+    slice-aggregate-one-2
     one-requires
     sub-turns
     loop-less
     loop-again
     same-length
-    same-length-2
-    same-length-3
-    same-length-4
-    same-length-5
-    same-length-6
     returns
-    same-length-7
-    same-length-8
-    same-length-9
-    same-length-10
-    same-length-11
-    same-length-12
+    same-length-2
     returns-2)

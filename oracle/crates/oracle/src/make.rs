@@ -1,14 +1,18 @@
 //! Inputs: small ones in full, random ones from fixed seeds.
 
 mod dice;
+mod lists;
 mod random;
 mod shapes;
 mod small;
+mod texts;
 
 pub use dice::Dice;
+pub use lists::{Window, few_lists, fixed, orders, windows};
 pub use random::{Size, damaged, list, product_list, rising, ruled, tokens, tree};
 pub use shapes::{SHAPES, full};
 pub use small::{lists, ruled_tables, trees, walk_tables};
+pub use texts::{TEXTS, damages, most_rows, text_of};
 
 /// A list of strings as build takes it.
 #[derive(Debug, Clone, PartialEq, Eq, Default)]

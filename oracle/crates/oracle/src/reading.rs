@@ -3,12 +3,14 @@
 
 mod build;
 mod checks;
+mod intake;
 mod shrink;
 mod text;
 mod unite;
 mod walk;
 
 pub use build::build;
+pub use intake::{Lists, defined, intake};
 pub use shrink::shrink;
 pub use text::{tabrep, text_in, text_out};
 pub use unite::unite;

@@ -8,38 +8,14 @@ const ROOM: usize = 16_384;
 
 type Lists = Vec<(i32, Vec<Vec<u16>>)>;
 
-/// Builds, unites from left to right and shrinks.
-fn made(lists: &Lists) -> Result<Table, Refusal> {
-    let mut whole: Option<Table> = None;
+/// The lists as the call takes them.
+fn lent(lists: &Lists) -> reading::Lists {
+    let mut all = reading::Lists::default();
     for (production, strings) in lists {
         let strings: Vec<&[u16]> = strings.iter().map(|s| &s[..]).collect();
-        let list = Strings::of(&strings);
-        let next = reading::build(*production, &list.lengths, &list.tokens, ROOM)?;
-        whole = Some(match whole {
-            None => next,
-            Some(before) => reading::unite(Mode::Intake, before.lent(), next.lent(), ROOM)?,
-        });
+        all.push(*production, &Strings::of(&strings));
     }
-    reading::shrink(Mode::Intake, whole.unwrap().lent(), ROOM)
-}
-
-/// What the string lists define, word for word.
-fn defined(lists: &Lists, tokens: &[u16]) -> Option<i32> {
-    let strings = || {
-        lists
-            .iter()
-            .flat_map(|(p, l)| l.iter().map(move |s| (p, s)))
-    };
-    let k = strings().map(|(_, s)| s.len()).max().unwrap();
-    let mut beginning: Vec<u16> = Vec::new();
-    for &token in &tokens[..k] {
-        let longer = [&beginning[..], &[token]].concat();
-        if strings().any(|(_, s)| s.starts_with(&longer)) {
-            beginning = longer;
-        }
-    }
-    let begins = strings().filter(|(_, s)| beginning.starts_with(s));
-    begins.max_by_key(|(_, s)| s.len()).map(|(p, _)| *p)
+    all
 }
 
 fn clashes(lists: &Lists) -> bool {
@@ -81,7 +57,7 @@ fn starting_with(lists: &Lists, i: usize) -> Vec<Lists> {
 fn holds(lists: &Lists, dice: &mut Dice) {
     let k = lists.iter().flat_map(|l| l.1.iter().map(Vec::len)).max();
     for order in orders(lists) {
-        let table = match made(&order) {
+        let table = match reading::intake(&lent(&order), ROOM) {
             Ok(table) => table,
             Err(refusal) => {
                 assert!(refusal.number() == 8 && clashes(lists), "{lists:?}");
@@ -93,8 +69,12 @@ fn holds(lists: &Lists, dice: &mut Dice) {
         for _ in 0..12 {
             let tokens = make::tokens(dice, table.k + 1, &[0, 1, 2, 3]);
             let answer = reading::predict(Mode::Intake, table.lent(), table.k, &tokens);
-            let expected = defined(lists, &tokens).ok_or(Refusal::Plain(11));
-            assert_eq!(expected, answer.map(|a| a.0), "{lists:?} {tokens:?}");
+            let expected = reading::defined(&lent(lists), &tokens);
+            assert_eq!(
+                expected.ok_or(Refusal::Plain(11)),
+                answer,
+                "{lists:?} {tokens:?}"
+            );
         }
     }
 }

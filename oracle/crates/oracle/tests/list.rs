@@ -1,6 +1,6 @@
 //! The committed list is what the generator makes, and reads back by its own README.
 
-use oracle::reading::{self, Answer, Mode, Refusal};
+use oracle::reading::{self, Answer, Lists, Mode, Refusal};
 use oracle::{Lent, Table, list};
 use std::collections::BTreeSet;
 use std::path::PathBuf;
@@ -17,7 +17,7 @@ fn committed() -> Vec<u8> {
 fn made_again_it_is_the_same() {
     let list = list::make();
     assert!(committed() == list.bytes);
-    assert!(list.bytes.len() <= 1_200_000);
+    assert!(list.bytes.len() <= 3_000_000);
     let readme = std::fs::read_to_string(repository().join("oracle/list/README.md")).unwrap();
     assert!(readme.contains(&list.counts()), "counts in list/README.md");
 }
@@ -78,6 +78,10 @@ impl Numbers<'_> {
         self.many(|n| n.unsigned().try_into().unwrap())
     }
 
+    fn lengths(&mut self) -> Vec<usize> {
+        self.many(|n| n.unsigned() as usize)
+    }
+
     fn mode(&mut self) -> Mode {
         [Mode::Archive, Mode::Intake][self.unsigned() as usize]
     }
@@ -85,6 +89,16 @@ impl Numbers<'_> {
     fn table(&mut self) -> (i32, usize, Vec<i32>) {
         let (prod0, k) = (self.signed(), self.unsigned() as usize);
         (prod0, k, self.many(|n| n.signed()))
+    }
+
+    fn predicted(&mut self) -> list::Predicted {
+        match [self.unsigned(), self.unsigned(), self.unsigned()] {
+            [0, production, entered] => Ok((production as i32, entered as usize)),
+            [number, zeros @ ..] => {
+                assert_eq!([0, 0], zeros);
+                Err(Refusal::Plain(number))
+            }
+        }
     }
 
     fn answer(&mut self) -> Answer<Table> {
@@ -105,6 +119,7 @@ impl Numbers<'_> {
                 self.unsigned() as i32,
                 self.unsigned() as i32,
             )),
+            13 => Err(Refusal::Text(self.unsigned() as usize)),
             number => Err(Refusal::Plain(number)),
         }
     }
@@ -172,7 +187,7 @@ fn number<T>(answer: &Answer<T>) -> u64 {
 fn builds() {
     through("build", &[0, 1, 2, 14], |n| {
         let production = n.signed();
-        let lengths = n.many(|n| n.unsigned() as usize);
+        let lengths = n.lengths();
         let (tokens, room) = (n.tokens(), n.unsigned() as usize);
         let answer = n.answer();
         let read = reading::build(production, &lengths, &tokens, room);
@@ -208,10 +223,7 @@ fn predicts() {
     through("predict", &[0, 1, 2, 3, 9, 10, 11, 12], |n| {
         let (mode, a) = (n.mode(), n.table());
         let (stream_k, tokens) = (n.unsigned() as usize, n.tokens());
-        let answer = match n.unsigned() {
-            0 => Ok((n.unsigned() as i32, n.unsigned() as usize)),
-            number => Err(Refusal::Plain(number)),
-        };
+        let answer = n.predicted();
         let a = Lent::new(a.0, a.1, &a.2);
         assert_eq!(reading::predict(mode, a, stream_k, &tokens), answer);
         (mode, number(&answer))
@@ -233,5 +245,44 @@ fn explains() {
             (matched, start, count)
         );
         (Mode::Archive, number(&matched))
+    });
+}
+
+#[test]
+fn intakes() {
+    through("intake", &[0, 1, 2, 8, 14], |n| {
+        let lists = Lists {
+            productions: n.many(|n| n.signed()),
+            counts: n.lengths(),
+            lengths: n.lengths(),
+            tokens: n.tokens(),
+        };
+        let (room, windows) = (n.unsigned() as usize, n.unsigned() / 6);
+        for _ in 0..windows {
+            let window = [n.unsigned(), n.unsigned(), n.unsigned()].map(|t| t as u16);
+            let means = reading::defined(&lists, &window);
+            assert_eq!(means.ok_or(Refusal::Plain(11)), n.predicted());
+        }
+        let answer = n.answer();
+        assert_eq!(reading::intake(&lists, room), answer);
+        assert!(windows == 0 || answer.is_ok());
+        (Mode::Intake, number(&answer))
+    });
+}
+
+#[test]
+fn texts() {
+    through("text", &[0, 1, 2, 3, 13], |n| {
+        let (length, room) = (n.unsigned() as usize, n.unsigned() as usize);
+        let (count, all) = (n.unsigned() as usize, n.0);
+        let answer = n.answer();
+        let written = &all[..all.len() - n.0.len()];
+        assert_eq!(count, written.iter().filter(|&&b| b < 128).count());
+        let (text, rest) = n.0.split_at(length);
+        let read = reading::text_in(text, room).map(|table| Table { states: 0, ..table });
+        assert_eq!(read, answer);
+        n.0 = rest;
+        // The Rust has no say: as in intake mode.
+        (Mode::Intake, number(&answer))
     });
 }

@@ -23,7 +23,7 @@ fn the_answers_by_hand_are_right() {
 fn each_name_stands_once() {
     let all = named::all();
     let names: BTreeSet<&str> = all.iter().map(|named| named.name).collect();
-    assert_eq!(67, all.len());
-    assert_eq!(67, names.len());
+    assert_eq!(79, all.len());
+    assert_eq!(79, names.len());
     assert!(names.iter().all(|name| name.is_ascii()));
 }

@@ -1,15 +1,18 @@
--- `begins` is safe and ends: the numbers left fall. Assumes nothing.
+-- `begins` is safe and ends: the numbers left fall, and the slice reaches as far. Assumes nothing.
 use borrow.Author.Needs.{needs}
-use Prim.Native.Nat.{_-_}
+use Prim.Native.Nat.{_-_, _≤_}
 use lib.ListN.{length}
 use Rattle.cases.proofs.slice.begins.Statement.{statement}
 use Rattle.cases.proofs.slice.begins.Tie as tie
 
 abbrev Inv-loop : tie.InvT-loop
-Inv-loop out numbers i₀ i = Unit {0}
+Inv-loop out numbers i₀ i = length numbers ≤ length out
 
 abbrev μ-loop : tie.MeasureT-loop
 μ-loop out numbers i₀ i = length numbers - i
+
+returns : tie.Need-returns Inv-loop μ-loop
+returns c = search needs
 
 loop-holds : tie.Need-loop-holds Inv-loop μ-loop
 loop-holds c = search needs
@@ -29,8 +32,8 @@ shared-slice-read-signed c = search needs
 signed-requires : tie.Need-signed-requires Inv-loop μ-loop
 signed-requires c κs = search needs
 
-returns : tie.Need-returns Inv-loop μ-loop
-returns c = search needs
+returns-2 : tie.Need-returns-2 Inv-loop μ-loop
+returns-2 c = search needs
 
 add-i : tie.Need-add-i Inv-loop μ-loop
 add-i c = search needs
@@ -41,8 +44,8 @@ loop-less c = search needs
 loop-again : tie.Need-loop-again Inv-loop μ-loop
 loop-again c = search needs
 
-returns-2 : tie.Need-returns-2 Inv-loop μ-loop
-returns-2 c = search needs
+returns-3 : tie.Need-returns-3 Inv-loop μ-loop
+returns-3 c = search needs
 
 pub begins-spec : {M : Type 1} → statement M
 begins-spec =
@@ -50,14 +53,15 @@ begins-spec =
     (tie.spec
     Inv-loop
     μ-loop
+    returns
     loop-holds
     mul-if2
     shared-slice-copy-out-if2
     mul-signed
     shared-slice-read-signed
     signed-requires
-    returns
+    returns-2
     add-i
     loop-less
     loop-again
-    returns-2)
+    returns-3)

@@ -1,6 +1,9 @@
 //! The numbers of a case as bytes.
 
-use crate::Lent;
+use super::case::{Predicted, number};
+use crate::make::Window;
+use crate::reading::{Answer, Refusal};
+use crate::{Lent, Table};
 
 /// Writes numbers one after the other.
 #[derive(Debug, Default, Clone)]
@@ -46,5 +49,42 @@ impl Bytes {
         self.signed(table.prod0);
         self.unsigned(table.k as u64);
         self.many_signed(table.rows);
+    }
+
+    /// What a call that makes a table answers: a clash with its pair, a bad line with its place.
+    pub fn answer(&mut self, made: &Answer<Table>) {
+        self.unsigned(number(made));
+        match made {
+            Ok(table) => {
+                self.signed(table.prod0);
+                self.unsigned(table.k as u64);
+                self.unsigned(table.states as u64);
+                self.unsigned(table.rows.len() as u64 / 4);
+                table.rows.iter().for_each(|&n| self.signed(n));
+            }
+            Err(Refusal::Clash(first, second)) => {
+                self.unsigned(*first as u64);
+                self.unsigned(*second as u64);
+            }
+            Err(Refusal::Text(at)) => self.unsigned(*at as u64),
+            Err(Refusal::Plain(_)) => {}
+        }
+    }
+
+    /// A refusal's number and two 0, or 0, the production and the rows entered.
+    pub fn predicted(&mut self, answer: &Predicted) {
+        self.unsigned(number(answer));
+        let (production, entered) = answer.unwrap_or((0, 0));
+        self.unsigned(production as u64);
+        self.unsigned(entered as u64);
+    }
+
+    /// A count of numbers, six a window: three tokens and a prediction.
+    pub fn windows(&mut self, windows: &[(Window, Predicted)]) {
+        self.unsigned(6 * windows.len() as u64);
+        for (window, answer) in windows {
+            window.iter().for_each(|&t| self.unsigned(t.into()));
+            self.predicted(answer);
+        }
     }
 }

@@ -2,9 +2,11 @@
 //! cases. Each answer is written down by hand; a test asks the reading and the Rust for it.
 
 mod explain;
+mod intake;
 mod predict;
 mod rust_tests;
 mod shrink;
+mod text;
 mod unite;
 
 use super::case::{Ask, Said};
@@ -25,6 +27,8 @@ pub fn all() -> Vec<Named> {
     all.extend(unite::all());
     all.extend(shrink::all());
     all.extend(rust_tests::all());
+    all.extend(intake::all());
+    all.extend(text::all());
     all
 }
 

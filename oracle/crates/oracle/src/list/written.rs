@@ -5,18 +5,19 @@ use super::Bytes;
 use super::case::{Ask, CALLS, Said};
 use super::named::Named;
 use crate::Lent;
-use crate::reading::Mode;
+use crate::make::Window;
+use crate::reading::{Lists, Mode};
 use std::collections::{BTreeMap, HashSet};
 
 /// The number that stands where a case has its call's: what follows is a name.
-pub const NAME: u64 = 5;
+pub const NAME: u64 = CALLS.len() as u64;
 
 /// The bytes and the counts.
 #[derive(Default)]
 pub struct List {
     pub bytes: Vec<u8>,
     /// For each call and each refusal number: cases in all, and those that the Rust answered.
-    pub counts: [BTreeMap<u64, (usize, usize)>; 5],
+    pub counts: [BTreeMap<u64, (usize, usize)>; CALLS.len()],
     seen: HashSet<Vec<u8>>,
 }
 
@@ -60,6 +61,18 @@ impl List {
 
     pub fn explain(&mut self, table: Lent, tokens: &[u16]) -> u64 {
         self.ask(Ask::Explain { table, tokens })
+    }
+
+    pub fn intake(&mut self, lists: &Lists, room: usize, windows: &[Window]) -> u64 {
+        self.ask(Ask::Intake {
+            lists,
+            room,
+            windows,
+        })
+    }
+
+    pub fn text(&mut self, text: &[u8], room: usize) -> u64 {
+        self.ask(Ask::Text { text, room })
     }
 
     /// Cases with the answers written by hand, in the list already or not, and their name.
@@ -118,12 +131,13 @@ impl List {
     }
 }
 
-/// The bytes of a case: call, source, input, answer.
+/// The bytes of a case: call, source, input, answer, end.
 fn case(ask: Ask, asked: bool, said: &Said) -> Bytes {
     let mut bytes = Bytes::default();
     bytes.unsigned(ask.call() as u64);
     bytes.unsigned(asked.into());
     ask.write(&mut bytes);
     said.write(&mut bytes);
+    bytes.0.extend(ask.end());
     bytes
 }
