@@ -3,10 +3,9 @@
 use crate::desk::{Change, Desk, Held, with_output};
 use crate::expected::{Expected, heard, made};
 use crate::fault::Fault;
-use crate::model::{self, Lists};
 use lookahead::raw;
 use oracle::agree::{self, Lending};
-use oracle::reading::{self, Answer, Mode, Refusal};
+use oracle::reading::{self, Answer, Lists, Mode, Refusal};
 use oracle::{Lent, Table};
 use std::fmt::Debug;
 
@@ -92,7 +91,7 @@ impl Desk {
     #[rustfmt::skip]
     pub fn intake(&mut self, lists: &Lists, room: usize) -> Answer<Table> {
         let input = ("intake", lists, room);
-        let read = model::intake(lists, room);
+        let read = reading::intake(lists, room);
         let (mut p, mut c) = (Held::new(&lists.productions), Held::new(&lists.counts));
         let (mut n, mut t) = (Held::new(&lists.lengths), Held::new(&lists.tokens));
         let ((ps, pl), (cs, cl), (ns, nl), (ts, tl)) = (p.lent(), c.lent(), n.lent(), t.lent());

@@ -72,8 +72,8 @@ impl Desk {
     pub fn new() -> Self {
         let number = |i: usize| (i as i32).wrapping_mul(0x0061_c889) ^ 0x5a5a_5a5a;
         Desk {
-            rows: Output::new(crate::model::ROOM, number),
-            bytes: Output::new(crate::model::TEXT_ROOM, |i| (i * 7 + i / 251) as u8 | 128),
+            rows: Output::new(oracle::list::ROOM, number),
+            bytes: Output::new(oracle::list::TEXT_ROOM, |i| (i * 7 + i / 251) as u8 | 128),
             cases: 0,
             asked: 0,
             by: [0; 15],

@@ -32,7 +32,7 @@ const fn drawn(name: &'static str, run: fn(&mut Desk, Part)) -> Family {
     Family { name, run, once }
 }
 
-pub const ALL: [Family; 23] = [
+pub const ALL: [Family; 24] = [
     full("all small lists, built", small::lists),
     full("all pairs of small trees, united", small::pairs),
     full("all small ruled tables, shrunk and written", small::ruled),
@@ -41,6 +41,7 @@ pub const ALL: [Family; 23] = [
     full("every limit of a batch from both sides", batches::limits),
     full("all tables of boundary numbers", bounds::tables),
     full("all pairs of small lists, intake", intake::pairs),
+    full("few lists in all orders, all windows, intake", intake::few),
     full("all one-byte changes of texts", texts::bytes),
     full("every limit from both sides", bounds::limits),
     drawn("random lists, built", random::lists),

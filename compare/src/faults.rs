@@ -2,10 +2,10 @@
 
 use crate::desk::Desk;
 use crate::fault::{ALL, Fault};
-use crate::model::{Lists, ROOM, TEXT_ROOM};
 use oracle::Lent;
+use oracle::list::{ROOM, TEXT_ROOM};
 use oracle::make::Strings;
-use oracle::reading::Mode;
+use oracle::reading::{Lists, Mode};
 use std::panic::{AssertUnwindSafe, catch_unwind};
 
 type Call = (&'static str, fn(&mut Desk), &'static [Fault]);

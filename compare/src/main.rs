@@ -10,7 +10,6 @@ mod expected;
 mod families;
 mod fault;
 mod faults;
-mod model;
 mod part;
 mod work;
 

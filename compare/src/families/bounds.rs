@@ -1,8 +1,9 @@
 //! Numbers at the boundaries, and every limit from both sides.
 
+use super::texts;
 use crate::desk::{Desk, GUARD};
-use crate::model::{ROOM, TEXT_ROOM};
 use crate::part::Part;
+use oracle::list::{ROOM, TEXT_ROOM};
 use oracle::make::{self, Strings};
 use oracle::reading::MODES;
 use oracle::{Lent, Table};
@@ -199,6 +200,14 @@ fn full(desk: &mut Desk) {
     }
 }
 
+/// Lines behind all others: one that is good, one out of form behind it, one out of range, one out of order.
+const MORE: [&str; 4] = [
+    "Trans(1023, 65535, 1, 1),\n",
+    "Trans(1023, 65535, 1, 1),\nTrans(\n",
+    "Trans(1023, 65536, 1, 1),\n",
+    "Trans(0, 0, 1, 1),\n",
+];
+
 /// 4,095 to 4,097 rows and far more, all into one state or widest in text, and slices of 1 to 3 numbers less.
 fn longest(desk: &mut Desk) {
     for count in [4_095, 4_096, 4_097, 9_000] {
@@ -213,8 +222,11 @@ fn longest(desk: &mut Desk) {
             let mut text = String::from("Dfa(65535, 16)\n");
             rows.chunks_exact(4)
                 .for_each(|r| text += &format!("Trans({}, {}, {}, {}),\n", r[0], r[1], r[2], r[3]));
-            let _ = desk.text_in(text.as_bytes(), ROOM);
-            let _ = desk.text_in(&text.as_bytes()[..text.len() - 1], ROOM);
+            texts::read(desk, text.as_bytes());
+            texts::read(desk, &text.as_bytes()[..text.len() - 1]);
+            for more in MORE {
+                texts::read(desk, format!("{text}{more}").as_bytes());
+            }
         }
     }
 }

@@ -3,8 +3,8 @@
 use super::{FEW, WIDE, room, size};
 use crate::damage;
 use crate::desk::Desk;
-use crate::model::{ROOM, TEXT_ROOM};
 use crate::part::Part;
+use oracle::list::{ROOM, TEXT_ROOM};
 use oracle::make;
 use oracle::reading::{self, MODES};
 

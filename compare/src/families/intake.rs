@@ -2,10 +2,10 @@
 
 use super::{FEW, PRODUCTIONS, WIDE};
 use crate::desk::Desk;
-use crate::model::{Lists, ROOM, defined};
 use crate::part::Part;
+use oracle::list::ROOM;
 use oracle::make::{self, Dice, Strings};
-use oracle::reading::{Mode, Refusal};
+use oracle::reading::{Lists, Mode, Refusal, defined};
 
 pub fn lists_of(parts: &[(i32, &[&[u16]])]) -> Lists {
     let mut lists = Lists::default();
@@ -18,24 +18,30 @@ pub fn lists_of(parts: &[(i32, &[&[u16]])]) -> Lists {
 /// Lists of up to 2 strings of up to 2 tokens out of 2, with one production and with two, all windows out of 3 tokens.
 pub fn pairs(desk: &mut Desk, part: Part) {
     let all = make::lists(2, 2, 2);
-    let windows: Vec<Vec<u16>> = make::lists(1, 2, 3).into_iter().map(|w| w.tokens).collect();
+    let all_tokens = make::lists(1, 2, 3);
+    let windows = || {
+        all_tokens
+            .iter()
+            .map(|w| &w.tokens[..])
+            .filter(|w| w.len() == 2)
+    };
     for (i, a) in all.iter().enumerate().filter(|(i, _)| part.has(*i)) {
         for b in &all {
             for other in [1, 2] {
                 let mut lists = Lists::default();
                 lists.push(1, a);
                 lists.push(other, b);
-                served(desk, &lists, windows.iter().filter(|w| w.len() == 2));
+                served(desk, &lists, windows());
             }
         }
         let mut alone = Lists::default();
         alone.push(i as i32, a);
-        served(desk, &alone, windows.iter().filter(|w| w.len() == 2));
+        served(desk, &alone, windows());
     }
 }
 
 /// The call, and if it is accepted what it predicts.
-fn served<'a>(desk: &mut Desk, lists: &Lists, windows: impl Iterator<Item = &'a Vec<u16>>) {
+fn served<'a>(desk: &mut Desk, lists: &Lists, windows: impl Iterator<Item = &'a [u16]>) {
     let Ok(table) = desk.intake(lists, ROOM) else {
         return;
     };
@@ -43,8 +49,28 @@ fn served<'a>(desk: &mut Desk, lists: &Lists, windows: impl Iterator<Item = &'a 
     for window in windows {
         let said = desk.predict(&mut lent, Mode::Intake, 16, window);
         let meant = defined(lists, window).ok_or(Refusal::Plain(11));
-        assert_eq!(meant, said.map(|s| s.0), "{lists:?} {window:?}");
+        assert_eq!(meant, said, "{lists:?} {window:?}");
     }
+}
+
+/// The lists that show one thing each, and 400 times 1 to 4 small ones, in all their orders, with every window of three
+/// tokens.
+pub fn few(desk: &mut Desk, part: Part) {
+    let mut dice = Dice::new(21);
+    let mut all = make::fixed();
+    all.extend((0..400).map(|i| make::few_lists(&mut dice, i % 4 + 1)));
+    let windows = make::windows();
+    for (_, lists) in all.iter().enumerate().filter(|(i, _)| part.has(*i)) {
+        for order in make::orders(lists.len()) {
+            let ordered = ordered(lists, &order);
+            served(desk, &ordered, windows.iter().map(|w| &w[..]));
+        }
+    }
+}
+
+fn ordered(lists: &[(i32, Strings)], order: &[usize]) -> Lists {
+    let all: Vec<_> = order.iter().map(|&i| lists[i].clone()).collect();
+    Lists::of(&all)
 }
 
 /// 1 to 4 lists in all their orders, half of them cut out of one list so that they do not clash.
@@ -58,12 +84,9 @@ pub fn orders(desk: &mut Desk, part: Part) {
         let windows: Vec<Vec<u16>> = (0..6)
             .map(|_| make::tokens(&mut dice, 16, terminals))
             .collect();
-        for order in all_orders(parts) {
-            let mut lists = Lists::default();
-            order
-                .iter()
-                .for_each(|&i| lists.push(drawn[i].0, &drawn[i].1));
-            served(desk, &lists, windows.iter());
+        for order in make::orders(parts) {
+            let lists = ordered(&drawn, &order);
+            served(desk, &lists, windows.iter().map(|w| &w[..]));
         }
         let room = super::room(&mut dice, ROOM);
         let bad = spoilt(&mut dice, &drawn);
@@ -99,8 +122,7 @@ fn drawn(
 
 /// One number of the lists changed.
 fn spoilt(dice: &mut Dice, drawn: &[(i32, Strings)]) -> Lists {
-    let mut lists = Lists::default();
-    drawn.iter().for_each(|(p, list)| lists.push(*p, list));
+    let mut lists = Lists::of(drawn);
     let place = dice.below(drawn.len());
     let odd = dice.pick(&[0, 1, 2, 17, 1 << 63, usize::MAX]);
     match dice.below(6) {
@@ -112,19 +134,4 @@ fn spoilt(dice: &mut Dice, drawn: &[(i32, Strings)]) -> Lists {
         _ => lists.tokens.push(5),
     }
     lists
-}
-
-fn all_orders(count: usize) -> Vec<Vec<usize>> {
-    let mut all = vec![Vec::new()];
-    for next in 0..count {
-        let with = |order: Vec<usize>| {
-            (0..=order.len()).map(move |place| {
-                let mut longer = order.clone();
-                longer.insert(place, next);
-                longer
-            })
-        };
-        all = all.into_iter().flat_map(with).collect();
-    }
-    all
 }

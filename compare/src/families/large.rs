@@ -2,11 +2,11 @@
 
 use super::{FEW, PRODUCTIONS, WIDE, size, varied};
 use crate::desk::Desk;
-use crate::model::{Lists, ROOM, TEXT_ROOM};
 use crate::part::Part;
 use oracle::Table;
+use oracle::list::{ROOM, TEXT_ROOM};
 use oracle::make::{self, Dice, Size, Strings};
-use oracle::reading::MODES;
+use oracle::reading::{Lists, MODES};
 
 /// Lists of up to 1,024 strings, trees of up to 1,024 states.
 pub fn trees(desk: &mut Desk, part: Part) {

@@ -2,12 +2,11 @@
 
 use super::{FEW, size};
 use crate::desk::Desk;
-use crate::model::{self, Lists};
 use crate::part::Part;
 use lookahead::lent::{self, Lent};
 use lookahead::{Mode, Table};
 use oracle::make::{self, Dice};
-use oracle::reading::{self, Answer, Refusal};
+use oracle::reading::{self, Answer, Lists, Refusal};
 use std::fmt::Debug;
 
 const MODES: [(Mode, reading::Mode); 2] = [
@@ -127,6 +126,6 @@ fn built(desk: &mut Desk, dice: &mut Dice) {
     lists.push(other.into(), &list);
     let said = Table::intake(&[(3, &strings), (other, &strings)]);
     let said = said.map(|s| (s.states, ours(&s.table)));
-    let read = model::intake(&lists, ROOM).map(|t| (t.states, theirs(&t)));
+    let read = reading::intake(&lists, ROOM).map(|t| (t.states, theirs(&t)));
     same(desk, said, read, &lists);
 }

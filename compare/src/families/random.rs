@@ -2,8 +2,8 @@
 
 use super::{FEW, PRODUCTIONS, WIDE, room, size, varied};
 use crate::desk::Desk;
-use crate::model::ROOM;
 use crate::part::Part;
+use oracle::list::ROOM;
 use oracle::make;
 use oracle::reading::{MODES, Mode};
 

@@ -1,8 +1,8 @@
 //! Small inputs in full.
 
 use crate::desk::Desk;
-use crate::model::{ROOM, TEXT_ROOM};
 use crate::part::Part;
+use oracle::list::{ROOM, TEXT_ROOM};
 use oracle::make;
 use oracle::reading::MODES;
 
