@@ -1,6 +1,6 @@
 -- What batch answers, check by check. Assumes nothing.
 use mathlib.Core.Path.{_≡_, refl, sym, ap, subst, _∙_}
-use mathlib.Core.Bool.{true, false, _||_}
+use mathlib.Core.Bool.{true, false}
 use mathlib.Core.List.{List, [], _∷_, _++_}
 use Prim.Native.Nat.{ℕ, zero, suc, _<_, _≤_}
 use borrow.Author.Tests.{lt-ltb, le-ltb}
@@ -10,7 +10,7 @@ use lib.IntN.{ℤ}
 use Rattle.paper.specs.declared.Mode.{Mode}
 use Rattle.paper.specs.declared.Refusal.{Refusal}
 use Rattle.paper.specs.declared.Writing.the-variants.{Wrote}
-use Rattle.paper.specs.Rows.{Table, table}
+use Rattle.paper.specs.Rows.{table}
 use Rattle.paper.specs.Answers.{Ruling, accept, refuse, number, detail, Chosen, Writes}
 use Rattle.paper.specs.Checks.{first, row-slice, plain}
 use Rattle.paper.specs.Predict.{predict}
@@ -22,7 +22,7 @@ use Rattle.rows.specs.declared.verdict.Verdict.the-variants.{Pass}
 use Rattle.rows.proofs.Judged.{judged}
 use Rattle.predict.specs.Checked.{checked}
 use Rattle.predict.proofs.Parts.{after-checks}
-use Rattle.paper.specs.Batch.{answered, each-window, window-lengths, batch}
+use Rattle.paper.specs.Batch.{each-window, window-lengths, batch}
 
 -- an answer for each window, and no more
 answers-count : (f : List ℕ → Ruling Chosen) (k n : ℕ) (ts : List ℕ) → length (each-window f k n ts) ≡ n

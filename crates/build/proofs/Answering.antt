@@ -1,15 +1,15 @@
 -- Build in its parts: 1, 2, then the strings and 14.
 -- Assumes nothing.
-use mathlib.Core.Path.{_≡_, refl, ap, sym, _∙_, subst}
+use mathlib.Core.Path.{_≡_, refl, sym, subst}
 use mathlib.Core.Bool.{true, false}
-use mathlib.Core.List.{List, [], _∷_}
+use mathlib.Core.List.{List}
 use Prim.Native.Nat.{ℕ}
 use lib.IntN.{ℤ}
 use Rattle.paper.specs.declared.Making.{Making}
 use Rattle.paper.specs.declared.Making.the-variants as making
 use Rattle.paper.specs.declared.Refusal.the-variants as refusal
 use Rattle.paper.specs.Rows.{Table, natural}
-use Rattle.paper.specs.Answers.{Ruling, refuse, Made, Makes}
+use Rattle.paper.specs.Answers.{Makes}
 use Rattle.paper.specs.Build.{within, built, strings, build-lengths, build-range, build}
 
 module _ (p : ℤ) (ts ns : List ℕ) (room : ℕ) (old : List ℤ) where

@@ -4,7 +4,6 @@ use paper::Making;
 use paper::Production;
 use paper::Refusal;
 use rows::numbers;
-ghost use mathlib.Core.Path.{_≡_};
 ghost use lib.ListN.{length};
 ghost use Rattle.paper.specs.Answers.{Makes};
 ghost use Rattle.paper.specs.Build.{within, built, strings, build};

@@ -2,7 +2,6 @@
 use rows::numbers;
 ghost use mathlib.Core.Path.{_≡_};
 ghost use lib.Dec.{eqb, ltb};
-ghost use lib.ListN.{length};
 ghost use Rattle.paper.specs.Checks.{any};
 ghost use Rattle.paper.specs.Build.{sum, build-lengths, build-range};
 

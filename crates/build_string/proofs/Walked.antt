@@ -1,16 +1,16 @@
 -- A string walked token by token, and its last state marked; rows never become fewer.
 -- Assumes nothing.
-use mathlib.Core.Path.{_≡_, refl, ap, sym, _∙_, subst}
+use mathlib.Core.Path.{_≡_, refl, ap, sym, _∙_}
 use mathlib.Core.Option.{Option, none, some}
 use mathlib.Core.List.{List, [], _∷_, map}
-use Prim.Native.Nat.{ℕ, zero, suc, _+_, _-_, _*_, _<_, _≤_}
+use Prim.Native.Nat.{ℕ, _+_, _-_, _<_, _≤_}
 use native.Mathlib.Omega.{arith}
 use native.Mathlib.Numerals.{add-one}
 use lib.ListN.{length, getD, drop, drop-of-length-le}
 use lib.Seq.{drop-cons}
 use lib.IntN.{ℤ}
 use Rattle.paper.specs.Rows.{Row, find}
-use Rattle.paper.specs.Build.{Standing, insert, enter, walk-in}
+use Rattle.paper.specs.Build.{Standing, enter, walk-in}
 use Rattle.rows.specs.Places.{uncoded}
 use Rattle.trees.proofs.Find.{length-insert}
 use Rattle.trees.proofs.Paths.{path}

@@ -2,7 +2,7 @@
 use mathlib.Core.Path.{_≡_}
 use mathlib.Core.Option.{some}
 use mathlib.Core.List.{List, map}
-use Prim.Native.Nat.{ℕ, _-_, _≤_, _<_}
+use Prim.Native.Nat.{ℕ, _-_, _<_}
 use lib.ListN.{length}
 use lib.IntN.{ℤ}
 use Rattle.paper.specs.Rows.{find}

@@ -1,14 +1,11 @@
 -- The code of prod0, before any string and after each.
 -- Assumes nothing.
-use mathlib.Core.Path.{_≡_, refl, ap, sym, _∙_}
-use mathlib.Core.Bool.{cond}
-use mathlib.Core.Option.{Option, none, some}
+use mathlib.Core.Path.{_≡_}
 use mathlib.Core.List.{List}
-use Prim.Native.Nat.{ℕ, suc, _+_, _≤_}
+use Prim.Native.Nat.{ℕ, _+_, _≤_}
 use native.Mathlib.Omega.{arith}
 use borrow.Author.Tests.{eq-eqb, ne-eqb}
 use lib.ListN.{length}
-use Rattle.rows.specs.Places.{uncoded}
 use Rattle.build_strings.specs.Listing.{Opens, Recodes}
 use Rattle.build_string.proofs.Walked.{code-of}
 

@@ -1,10 +1,10 @@
 -- All strings, each read from the rest of the token slice: the table so far, and what is left to add.
 -- Assumes nothing.
-use mathlib.Core.Path.{_≡_, refl, ap, sym, _∙_, subst}
+use mathlib.Core.Path.{_≡_, ap, sym, _∙_, subst}
 use mathlib.Core.Bool.{Bool, cond}
 use mathlib.Core.Option.{Option, none, some}
 use mathlib.Core.List.{List, [], _∷_, map}
-use Prim.Native.Nat.{ℕ, zero, suc, max, _+_, _-_, _*_, _<_, _≤_}
+use Prim.Native.Nat.{ℕ, max, _+_, _-_, _<_, _≤_}
 use native.Mathlib.Omega.{arith}
 use native.Mathlib.Numerals.{add-one}
 use borrow.Author.Tests.{ne-eqb}
@@ -12,8 +12,8 @@ use lib.Dec.{eqb}
 use lib.ListN.{length, getD, take, drop, length-drop, drop-of-length-le}
 use lib.Seq.{drop-cons, length-take-le, take-all}
 use lib.IntN.{ℤ}
-use Rattle.paper.specs.Rows.{Row, Table}
-use Rattle.paper.specs.Build.{Standing, give, walk-in, add-string, add-strings, built, strings, sum}
+use Rattle.paper.specs.Rows.{Table}
+use Rattle.paper.specs.Build.{give, walk-in, add-string, add-strings, built, strings, sum}
 use Rattle.rows.specs.Places.{uncoded}
 use Rattle.trees.proofs.Paint.{paint, give-rows, length-give}
 use Rattle.trees.proofs.Tree.{Tree, no-rows}

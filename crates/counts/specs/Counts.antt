@@ -6,7 +6,7 @@ use Prim.Native.Nat.{ℕ, _+_}
 use lib.Dec.{eqb}
 use lib.ListN.{getD, set}
 use lib.IntN.{ℤ}
-use Rattle.paper.specs.Rows.{rows-in, states}
+use Rattle.paper.specs.Rows.{rows-in}
 use Rattle.paper.specs.Checks.{rows-into}
 use Rattle.counts.specs.Arrays.{Holds}
 

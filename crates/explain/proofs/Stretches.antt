@@ -1,15 +1,15 @@
 -- The stretch that explain's second call returns.
 -- Assumes nothing.
-use mathlib.Core.Path.{_≡_, refl, sym, ap, _∙_}
-use mathlib.Core.Bool.{Bool, true, false}
-use mathlib.Core.List.{List, [], _∷_}
+use mathlib.Core.Path.{_≡_, sym, ap, _∙_}
+use mathlib.Core.Bool.{true, false}
+use mathlib.Core.List.{List, []}
 use Prim.Native.Nat.{ℕ, _+_, _-_, _*_}
 use native.Mathlib.Omega.{arith}
 use borrow.Author.Tests.{eq-eqb, ne-eqb}
 use lib.ListN.{length}
 use lib.IntN.{ℤ}
-use Rattle.paper.specs.Rows.{Row, rows-in, table, leaving, begin}
-use Rattle.paper.specs.Answers.{Ruling, accept, refuse, number, detail}
+use Rattle.paper.specs.Rows.{rows-in, table, leaving}
+use Rattle.paper.specs.Answers.{accept, refuse, number, detail}
 use Rattle.paper.specs.Checks.{row-slice, plain}
 use Rattle.paper.specs.Explain.{
   Stop,

@@ -7,7 +7,7 @@ use rows::verdict::Verdict;
 use search::Found;
 ghost use mathlib.Core.Path.{_≡_};
 ghost use mathlib.Core.Bool.{false};
-ghost use Prim.Native.Nat.{_+_, _-_, _*_, _/_, _<_, _≤_};
+ghost use Prim.Native.Nat.{_+_, _-_, _*_, _<_, _≤_};
 ghost use lib.ListN.{length};
 ghost use Rattle.paper.specs.Rows.{rows-in};
 ghost use Rattle.paper.specs.Answers.{explained};

@@ -1,6 +1,6 @@
 -- The prod0 of an accepted call is one that an i32 holds. Assumes nothing.
-use mathlib.Core.Path.{_≡_, refl, sym, ap}
-use mathlib.Core.Bool.{true, false, cond, _||_}
+use mathlib.Core.Path.{_≡_, sym, ap}
+use mathlib.Core.Bool.{_||_}
 use mathlib.Core.List.{List, _∷_}
 use Prim.Native.Nat.{ℕ, _<_, _^_}
 use native.Mathlib.Omega.{arith}
@@ -9,7 +9,7 @@ use lib.IntN.{ℤ}
 use lib.Signed.{mag}
 use lib.Dec.{ltb}
 use Rattle.paper.specs.declared.Mode.{Mode}
-use Rattle.paper.specs.Rows.{Table, signed, numbers, table}
+use Rattle.paper.specs.Rows.{Table, signed, table}
 use Rattle.paper.specs.Answers.{Ruling, accept, refuse, then, Made}
 use Rattle.paper.specs.Checks.{first, plain, row-slice, little-room, range, order, shape, loose, split}
 use Rattle.paper.specs.Build.{build}

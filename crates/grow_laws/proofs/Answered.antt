@@ -1,26 +1,23 @@
 -- The answer for a table whose rows stand in the array, and for one with a row too many.
 -- Assumes nothing.
 use mathlib.Core.Path.{_≡_, refl, ap, sym, _∙_}
-use mathlib.Core.Bool.{true, false}
-use mathlib.Core.Option.{Option, none, some}
-use mathlib.Core.List.{List, [], _∷_, _++_}
+use mathlib.Core.List.{List, [], _++_}
 use Prim.Native.Nat.{ℕ, suc, _+_, _*_, _<_, _≤_}
 use native.Mathlib.Omega.{arith}
 use native.Mathlib.Numerals.{add-one}
 use borrow.Author.Tests.{lt-ltb, le-ltb}
-use lib.Dec.{ltb}
 use lib.ListN.{length, take, drop}
 use lib.IntN.{ℤ}
 use Rattle.paper.specs.declared.Making.the-variants as making
 use Rattle.paper.specs.declared.Refusal.the-variants as refusal
-use Rattle.paper.specs.Rows.{Row, Table, signed, rows-in, numbers}
-use Rattle.paper.specs.Answers.{Ruling, accept, refuse, Made, Heading, made, Makes}
-use Rattle.paper.specs.Checks.{full, rising, every, row-fits}
+use Rattle.paper.specs.Rows.{Table, signed}
+use Rattle.paper.specs.Answers.{accept, refuse, Made, Makes}
+use Rattle.paper.specs.Checks.{rising, every}
 use Rattle.paper.specs.Build.{within}
 use Rattle.rows.specs.Places.{uncoded}
 use Rattle.grow_laws.specs.Moves.{front}
 use Rattle.grow_laws.specs.Held.{held, Laid, table-of}
-use Rattle.grow_laws.proofs.Written.{held-length, held-numbers}
+use Rattle.grow_laws.proofs.Written.{held-length}
 use Rattle.grow_laws.proofs.Placed.{room, written}
 
 -- no rows yet

@@ -1,6 +1,6 @@
 -- An answer that states a ruling hands that ruling over. Assumes nothing.
 use mathlib.Core.Path.{_≡_, refl, ap, sym, _∙_}
-use mathlib.Core.Bool.{Bool, true, false}
+use mathlib.Core.Bool.{true, false}
 use mathlib.Core.Option.{Option}
 use mathlib.Core.List.{List, _∷_, []}
 use Prim.Native.Nat.{ℕ, _<_, _^_}
@@ -17,23 +17,7 @@ use Rattle.paper.specs.declared.Reading.{Reading}
 use Rattle.paper.specs.declared.Writing.{Writing}
 use Rattle.paper.specs.Rows.{Table, accepting, signed, table}
 use Rattle.paper.specs.Checks.{row-slice, plain}
-use Rattle.paper.specs.Answers.{
-  Ruling,
-  accept,
-  refuse,
-  then,
-  number,
-  detail,
-  made,
-  heard,
-  wrote,
-  Made,
-  Heading,
-  Title,
-  Makes,
-  Reads,
-  Writes,
-}
+use Rattle.paper.specs.Answers.{Ruling, accept, refuse, then, number, detail, made, heard, wrote, Made, Makes, Reads, Writes}
 use Rattle.rows.specs.Places.{code}
 use Rattle.rows.specs.Verdicts.{Judges}
 use Rattle.rows.specs.declared.verdict.Verdict.the-variants.{Pass, Refused}

@@ -4,7 +4,6 @@ use mathlib.Core.Path.{_≡_}
 use mathlib.Core.List.{List, [], _∷_, _++_}
 use lib.ListN.{length, drop}
 use lib.IntN.{ℤ}
-use Rattle.paper.specs.declared.Production.{Production}
 use Rattle.paper.specs.declared.Refusal.{Refusal}
 use Rattle.paper.specs.declared.Refusal.the-variants as refusal
 use Rattle.paper.specs.declared.Making.{Making}
@@ -17,7 +16,7 @@ use Rattle.paper.specs.declared.Reading.{Reading}
 use Rattle.paper.specs.declared.Reading.the-variants as reading
 use Rattle.paper.specs.declared.Writing.{Writing}
 use Rattle.paper.specs.declared.Writing.the-variants as writing
-use Rattle.paper.specs.Rows.{Row, Table, signed, numbers}
+use Rattle.paper.specs.Rows.{Table, signed, numbers}
 
 -- A call accepts, or refuses by a number, with the detail of 8 and 13.
 pub data Ruling (A : Type 0) : Type 0 where

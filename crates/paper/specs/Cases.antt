@@ -4,11 +4,11 @@ use Prim.Native.String.{String}
 use mathlib.Core.Option.{Option, none, some}
 use mathlib.Core.List.{List, [], _∷_, _++_, map}
 use lib.ListN.{length}
-use lib.IntN.{ℤ, pos}
+use lib.IntN.{pos}
 use Rattle.paper.specs.declared.Mode.{Mode}
 use Rattle.paper.specs.declared.Mode.the-variants.{Archive, Intake}
 use Rattle.paper.specs.Words.{bytes}
-use Rattle.paper.specs.Rows.{Row, Table, signed, numbers}
+use Rattle.paper.specs.Rows.{Row, signed, numbers}
 use Rattle.paper.specs.Answers.{Ruling, accept, refuse, then, Made, Chosen}
 use Rattle.paper.specs.Build.{build}
 use Rattle.paper.specs.Unite.{unite}

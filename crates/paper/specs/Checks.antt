@@ -7,7 +7,7 @@ use lib.ListN.{length}
 use lib.IntN.{ℤ}
 use lib.Dec.{eqb, ltb, leb}
 use Rattle.paper.specs.Rows.{Row, Table}
-use Rattle.paper.specs.Answers.{Ruling, accept, refuse}
+use Rattle.paper.specs.Answers.{Ruling, refuse}
 
 -- The first check that refuses, by its number; else what follows.
 abbrev pub first : {A : Type 0} → List (Bool × ℕ) → Ruling A → Ruling A

@@ -1,14 +1,14 @@
 -- Document 01, module 6: explain.
-use Prim.Native.Nat.{ℕ, zero, suc, _+_, _*_}
+use Prim.Native.Nat.{ℕ, suc, _+_, _*_}
 use mathlib.Core.Path.{_≡_}
 use mathlib.Core.Bool.{Bool, true, false, not, _||_, cond}
-use mathlib.Core.Option.{Option, none, some}
-use mathlib.Core.List.{List, [], _∷_, _++_}
+use mathlib.Core.Option.{none, some}
+use mathlib.Core.List.{List, [], _∷_}
 use lib.ListN.{length, take, drop}
 use lib.IntN.{ℤ}
 use lib.Dec.{eqb}
 use denote.Ref.{RefT}
-use Rattle.paper.specs.Rows.{Row, Table, table, rows-in, find, begin, leaving}
+use Rattle.paper.specs.Rows.{Row, table, rows-in, find, begin, leaving}
 use Rattle.paper.specs.Answers.{Ruling, accept, refuse, then}
 use Rattle.paper.specs.Checks.{first, row-slice, plain}
 

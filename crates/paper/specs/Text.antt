@@ -8,7 +8,7 @@ use lib.ListN.{length, drop, getD}
 use lib.IntN.{ℤ, pos, negsuc}
 use lib.Dec.{eqb, ltb, leb}
 use Rattle.paper.specs.Words.{bytes}
-use Rattle.paper.specs.Rows.{Row, Table, table, natural}
+use Rattle.paper.specs.Rows.{Table, table, natural}
 use Rattle.paper.specs.Answers.{Ruling, accept, refuse, then}
 use Rattle.paper.specs.Checks.{first, row-slice, little-room, plain}
 

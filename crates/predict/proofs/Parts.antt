@@ -1,21 +1,18 @@
 -- Predict in its parts: the checks, then 9 and 10, then the walk.
 -- Assumes nothing.
-use mathlib.Core.Path.{_≡_, refl, sym, ap, _∙_}
+use mathlib.Core.Path.{_≡_, sym, ap, _∙_}
 use mathlib.Core.Bool.{true, false}
-use mathlib.Core.List.{List, [], _∷_}
+use mathlib.Core.List.{List, []}
 use Prim.Native.Nat.{ℕ}
-use lib.Dec.{ltb}
-use lib.ListN.{length, take}
+use lib.ListN.{take}
 use lib.IntN.{ℤ}
 use Rattle.paper.specs.declared.Mode.{Mode}
-use Rattle.paper.specs.declared.Refusal.{Refusal}
 use Rattle.paper.specs.Rows.{accepting, rows-in, table}
-use Rattle.paper.specs.Answers.{Ruling, refuse, Chosen, number, detail}
-use Rattle.paper.specs.Checks.{first, row-slice, plain}
+use Rattle.paper.specs.Answers.{Ruling, refuse, Chosen}
+use Rattle.paper.specs.Checks.{row-slice, plain}
 use Rattle.paper.specs.Predict.{Walk, start, walk, answer, chosen, predict-table, predict}
 use Rattle.rows.specs.Verdicts.{Judges, follow}
 use Rattle.rows.specs.declared.verdict.Verdict.{Verdict}
-use Rattle.rows.specs.declared.verdict.Verdict.the-variants.{Pass, Refused}
 use Rattle.rows.proofs.Judged.{judged}
 use Rattle.predict.specs.Checked.{checked}
 

@@ -15,7 +15,7 @@ use Rattle.paper.specs.Answers as answers
 use Rattle.paper.specs.Answers.{Ruling, accept, refuse, then, Heading, Makes, number, detail}
 use Rattle.paper.specs.Checks.{little-room, range, order, shape, loose, split}
 use Rattle.paper.specs.Shrink.{shrunk, shrink-table, shrink}
-use Rattle.paper.specs.Tabrep.{lines-of, line}
+use Rattle.paper.specs.Tabrep.{lines-of}
 use Rattle.rows.proofs.Rest.{length-rows}
 use Rattle.rows.proofs.Judged.{rows-fit}
 use Rattle.counts.specs.Arrays.{Fitting}

@@ -1,18 +1,17 @@
 -- Rows rise as their keys do, where terminals are within their bounds.
 -- Assumes nothing.
-use mathlib.Core.Path.{_≡_, refl, ap, sym, _∙_}
-use mathlib.Core.Logic.{_⊎_, inl, inr, ⊎-elim}
-use mathlib.Core.Bool.{Bool, true, false, not, _&&_, _||_}
-use mathlib.Core.List.{List, [], _∷_}
-use Prim.Native.Nat.{ℕ, zero, suc, _+_, _*_, _<_, _≤_}
+use mathlib.Core.Path.{_≡_, ap, sym, _∙_}
+use mathlib.Core.Bool.{Bool, true, false, _&&_}
+use mathlib.Core.List.{List, _∷_}
+use Prim.Native.Nat.{ℕ, _+_, _*_, _<_, _≤_}
 use native.Mathlib.Omega.{arith}
 use borrow.Author.Tests.{lt-ltb, le-ltb, eq-eqb, ne-eqb, ltb-true, ltb-false, eqb-true, eqb-false}
 use lib.Dec.{ltb, eqb}
 use lib.ListN.{length}
 use lib.IntN.{ℤ}
 use Rattle.paper.specs.Rows.{Row, rows-in}
-use Rattle.paper.specs.Checks.{every, row-fits, before, rising, order}
-use Rattle.rows.specs.Places.{row-at, rest, key, bare}
+use Rattle.paper.specs.Checks.{every, row-fits, before, rising}
+use Rattle.rows.specs.Places.{row-at, rest, key}
 use Rattle.rows.proofs.Rest.{by-test, by-place, rest-cons, rest-end, every-at}
 use Rattle.rows.proofs.Fits.{fit}
 

@@ -2,7 +2,7 @@
 use crate::numbers;
 ghost use mathlib.Core.Path.{_≡_};
 ghost use mathlib.Core.Bool.{true};
-ghost use Prim.Native.Nat.{_+_, _*_, _<_, _≤_};
+ghost use Prim.Native.Nat.{_+_, _*_, _<_};
 ghost use lib.ListN.{length};
 ghost use Rattle.paper.specs.Rows.{rows-in, table};
 ghost use Rattle.paper.specs.Checks.{row-slice, row-fits, every, range, order, shape};

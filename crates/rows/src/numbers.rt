@@ -1,10 +1,9 @@
 // Where a table's i32 numbers become states, terminals and productions, and back.
 ghost use mathlib.Core.Path.{_≡_};
 ghost use mathlib.Core.Bool.{true};
-ghost use mathlib.Core.Option.{Option};
 ghost use Prim.Native.Nat.{_+_, _*_, _/_, _<_, _≤_};
-ghost use lib.ListN.{length, getD};
-ghost use lib.IntN.{ℤ, pos};
+ghost use lib.ListN.{length};
+ghost use lib.IntN.{pos};
 ghost use Rattle.paper.specs.Rows.{natural, accepting, signed, rows-in};
 ghost use Rattle.paper.specs.Checks.{every, row-fits};
 ghost use Rattle.rows.specs.Places.{Reads, code, uncoded, row-at, key};

@@ -1,7 +1,6 @@
 // The checks of a call, one after the other.
 use crate::checks;
 use paper::Refusal;
-ghost use mathlib.Core.Path.{_≡_};
 ghost use Rattle.paper.specs.Rows.{table};
 ghost use Rattle.paper.specs.Checks.{plain};
 ghost use Rattle.rows.specs.Verdicts.{Judges};

@@ -2,7 +2,6 @@
 use rows::numbers;
 ghost use mathlib.Core.Path.{_≡_};
 ghost use Prim.Native.Nat.{_<_, _≤_};
-ghost use lib.ListN.{length};
 ghost use Rattle.counts.specs.Arrays.{Fitting, Clear};
 ghost use Rattle.ruled.specs.Into.{Marked};
 

@@ -4,7 +4,6 @@ use crate::into;
 use paper::Refusal;
 use rows::verdict;
 use rows::verdict::Verdict;
-ghost use mathlib.Core.Path.{_≡_};
 ghost use Prim.Native.Nat.{_≤_};
 ghost use lib.ListN.{length};
 ghost use Rattle.paper.specs.Rows.{table};

@@ -2,8 +2,8 @@
 -- Assumes nothing.
 use mathlib.Core.Path.{_≡_, refl, sym, ap, _∙_}
 use mathlib.Core.Bool.{Bool, true, false, _&&_, cond}
-use mathlib.Core.Option.{Option, none, some}
-use mathlib.Core.List.{List, [], _∷_}
+use mathlib.Core.Option.{none, some}
+use mathlib.Core.List.{List}
 use Prim.Native.Nat.{ℕ, zero, suc, _+_, _-_, _*_, _/_, _≤_, _<_}
 use native.Mathlib.Omega.{arith}
 use native.Mathlib.Numerals.{add-one}
@@ -16,7 +16,7 @@ use Rattle.paper.specs.Checks.{row-fits}
 use Rattle.rows.specs.Places.{row-at, rest, key}
 use Rattle.rows.specs.Passed.{Passed}
 use Rattle.search.specs.Search.{Lower}
-use Rattle.rows.proofs.Rest.{by-test, rest-cons, rest-end, every-at}
+use Rattle.rows.proofs.Rest.{rest-cons, rest-end, every-at}
 use Rattle.rows.proofs.Fits.{fit}
 use Rattle.rows.proofs.Keys.{compared}
 use Rattle.rows.proofs.Passing.{keys-rise}

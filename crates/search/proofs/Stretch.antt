@@ -8,7 +8,7 @@ use borrow.Author.Tests.{lt-ltb, le-ltb, eq-eqb, ne-eqb}
 use lib.Dec.{eqb, ltb}
 use lib.ListN.{length}
 use lib.IntN.{ℤ}
-use Rattle.paper.specs.Rows.{Row, rows-in, begin, leaving}
+use Rattle.paper.specs.Rows.{rows-in, begin, leaving}
 use Rattle.rows.specs.Places.{row-at}
 use Rattle.rows.specs.Passed.{Passed}
 use Rattle.rows.proofs.Passing.{fit-at}

@@ -1,13 +1,11 @@
 -- What the search in rows that passed 1 to 3 answers.
 use mathlib.Core.Path.{_≡_}
-use mathlib.Core.Bool.{true}
 use mathlib.Core.Option.{none, some}
 use mathlib.Core.List.{List}
 use Prim.Native.Nat.{ℕ, _+_, _*_, _/_, _≤_, _<_}
 use lib.ListN.{length}
 use lib.IntN.{ℤ}
 use Rattle.paper.specs.Rows.{rows-in, find, begin, leaving}
-use Rattle.paper.specs.Checks.{every, row-fits, rising}
 use Rattle.rows.specs.Places.{row-at, key}
 use Rattle.search.specs.declared.Found.{Found}
 use Rattle.search.specs.declared.Found.the-variants.{At, Missing}

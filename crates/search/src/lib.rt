@@ -1,10 +1,8 @@
 // The row of a state and a terminal, and the stretch of a state's rows, in rows that passed 1 to 3.
 use rows::numbers;
-ghost use mathlib.Core.Path.{_≡_};
 ghost use Prim.Native.Nat.{_+_, _*_, _<_, _≤_, _/_};
 ghost use lib.ListN.{length};
-ghost use Rattle.paper.specs.Rows.{rows-in, begin, leaving};
-ghost use Rattle.rows.specs.Places.{key, row-at};
+ghost use Rattle.paper.specs.Rows.{begin, leaving};
 ghost use Rattle.rows.specs.Passed.{Passed};
 ghost use Rattle.search.specs.Search.{Bracket, Lower, Scanned, Finds, Leaves};
 

@@ -4,8 +4,7 @@ use crate::pieces;
 use crate::pieces::Number;
 use crate::reader;
 ghost use mathlib.Core.Path.{_≡_};
-ghost use Prim.Native.Nat.{_+_, _<_, _≤_};
-ghost use lib.ListN.{length, drop};
+ghost use Prim.Native.Nat.{_+_};
 ghost use Rattle.text_lines.specs.Reading.{row-of, head-of, row-from, head-from};
 
 // A row's from, terminal, to and its production's code, and the place of the line after it.

@@ -1,12 +1,12 @@
 -- The lines of a table's rows, as a loop writes them one after another. Assumes nothing.
-use Prim.Native.Nat.{ℕ, zero, suc, _+_, _-_, _*_, _<_, _≤_}
-use mathlib.Core.Path.{_≡_, refl, ap, sym, _∙_}
+use Prim.Native.Nat.{ℕ, _+_, _-_, _*_, _<_, _≤_}
+use mathlib.Core.Path.{_≡_, ap, sym, _∙_}
 use mathlib.Core.List.{List, [], _++_}
 use native.Mathlib.Omega.{arith}
 use lib.ListN.{length, length-append}
 use lib.IntN.{ℤ}
 use Rattle.paper.specs.Rows.{Row}
-use Rattle.rows.specs.Places.{code, uncoded, row-at, rest}
+use Rattle.rows.specs.Places.{code, row-at, rest}
 use Rattle.rows.proofs.Codes.{uncoded-code}
 use Rattle.rows.proofs.Rest.{rest-cons, rest-end}
 use Rattle.text_laws.specs.Put.{put, Puts}

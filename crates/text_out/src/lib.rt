@@ -6,7 +6,6 @@ use rows::numbers;
 
 pub mod writing;
 
-ghost use mathlib.Core.Path.{_≡_};
 ghost use lib.ListN.{length};
 ghost use Rattle.paper.specs.Answers.{Writes};
 ghost use Rattle.paper.specs.Text.{text-out};

@@ -1,10 +1,10 @@
 -- Unite in its parts: 1, the checks of each table, state 0, the rows, 14.
 -- Assumes nothing.
 use mathlib.Core.Path.{_≡_, refl, ap, sym, _∙_, subst}
-use mathlib.Core.Bool.{Bool, true, false, _||_}
-use mathlib.Core.Option.{Option, none, some}
-use mathlib.Core.List.{List, [], _∷_, _++_}
-use Prim.Native.Nat.{ℕ, _+_, _*_, _/_, _<_, _≤_}
+use mathlib.Core.Bool.{true, false}
+use mathlib.Core.Option.{Option}
+use mathlib.Core.List.{List, [], _∷_}
+use Prim.Native.Nat.{ℕ, _*_, _/_, _<_, _≤_}
 use native.Mathlib.Omega.{arith}
 use borrow.Author.Tests.{lt-ltb, le-ltb}
 use lib.ListN.{length, take}
@@ -15,13 +15,13 @@ use Rattle.paper.specs.declared.Making.{Making}
 use Rattle.paper.specs.declared.Making.the-variants as making
 use Rattle.paper.specs.declared.Refusal.{Refusal}
 use Rattle.paper.specs.declared.Refusal.the-variants as refusal
-use Rattle.paper.specs.Rows.{Row, Table, accepting, rows-in, table}
-use Rattle.paper.specs.Answers.{Ruling, accept, refuse, then, Made, Makes, number, detail}
+use Rattle.paper.specs.Rows.{Row, Table, rows-in, table}
+use Rattle.paper.specs.Answers.{Ruling, accept, refuse, Made, Makes}
 use Rattle.paper.specs.Checks.{first, row-slice, little-room, tree}
 use Rattle.paper.specs.Build.{within}
 use Rattle.paper.specs.Unite.{root, united-k, united, unite-tables, unite}
 use Rattle.rows.specs.Places.{uncoded}
-use Rattle.rows.specs.Verdicts.{Judges, follow}
+use Rattle.rows.specs.Verdicts.{Judges}
 use Rattle.rows.specs.declared.verdict.Verdict.{Verdict}
 use Rattle.rows.specs.declared.verdict.Verdict.the-variants.{Pass, Refused}
 use Rattle.rows.proofs.Judged.{judged}
@@ -29,19 +29,8 @@ use Rattle.grow_laws.specs.Moves.{front}
 use Rattle.grow_laws.specs.Held.{held, Laid, table-of}
 use Rattle.grow_laws.proofs.Fronts.{front-read}
 use Rattle.grow_laws.proofs.Answered.{within-full}
-use Rattle.trees.proofs.Tree.{Tree}
 use Rattle.unite.specs.Whole.{Passes}
-use Rattle.unite_taking.specs.Taking.{
-  all-rows,
-  Unites,
-  Clashes,
-  Overflows,
-  Accepts,
-  Refuses,
-  United-rows,
-  Treed,
-  joining,
-}
+use Rattle.unite_taking.specs.Taking.{Unites, Clashes, Overflows, Accepts, Refuses, United-rows, Treed, joining}
 use Rattle.unite_taking.specs.declared.Union.{Union}
 
 -- ---- the rows

@@ -1,16 +1,16 @@
 -- What a table that passed 1 to 7 is: a tree with at most 1,023 rows, within its bounds.
 -- Assumes nothing.
-use mathlib.Core.Path.{_≡_, refl, ap, sym, _∙_}
-use mathlib.Core.Bool.{Bool, true, false, not, _||_}
-use mathlib.Core.List.{List, [], _∷_}
-use Prim.Native.Nat.{ℕ, zero, suc, _+_, _*_, _/_, _%_, _<_, _≤_}
+use mathlib.Core.Path.{_≡_, refl}
+use mathlib.Core.Bool.{false, not}
+use mathlib.Core.List.{List}
+use Prim.Native.Nat.{ℕ, zero, suc, _%_, _≤_}
 use native.Mathlib.Omega.{arith}
 use borrow.Author.Tests.{eqb-true, ltb-false, not-false}
 use lib.Dec.{eqb, ltb}
 use lib.ListN.{length}
 use lib.IntN.{ℤ}
 use Rattle.laws.proofs.Every.{neither, every-in}
-use Rattle.paper.specs.Rows.{Row, Table, accepting, rows-in, table}
+use Rattle.paper.specs.Rows.{Table, accepting, rows-in, table}
 use Rattle.paper.specs.Checks.{row-slice, range, row-fits, tree}
 use Rattle.rows.specs.Places.{code}
 use Rattle.rows.specs.Verdicts.{Judges}

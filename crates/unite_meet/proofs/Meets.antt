@@ -1,16 +1,14 @@
 -- Two productions of one state as codes: what they come to, by the mode.
 -- Assumes nothing.
-use mathlib.Core.Path.{_≡_, refl, ap, sym, _∙_, subst}
-use mathlib.Core.Bool.{true, false}
-use mathlib.Core.Option.{Option, none, some}
+use mathlib.Core.Path.{_≡_, refl, ap, subst}
+use mathlib.Core.Option.{Option}
 use mathlib.Core.List.{List, [], _∷_}
-use Prim.Native.Nat.{ℕ, zero, suc, _-_, _<_, _≤_, max}
+use Prim.Native.Nat.{ℕ, zero, suc, _-_, max}
 use native.Mathlib.Omega.{arith}
 use borrow.Author.Tests.{eq-eqb, ne-eqb}
-use lib.Dec.{eqb}
 use Rattle.paper.specs.declared.Mode.{Mode}
 use Rattle.paper.specs.declared.Mode.the-variants.{Archive, Intake}
-use Rattle.paper.specs.Answers.{Ruling, accept, refuse, then}
+use Rattle.paper.specs.Answers.{Ruling, accept, refuse}
 use Rattle.paper.specs.Unite.{agree, taken, root, united-k}
 use Rattle.rows.specs.Places.{uncoded}
 use Rattle.unite_meet.specs.declared.Meet.{Meet}

@@ -1,7 +1,7 @@
 -- What comes of two productions of one state, as the code says it.
 use mathlib.Core.Path.{_≡_}
 use mathlib.Core.Option.{Option}
-use mathlib.Core.List.{List, [], _∷_}
+use mathlib.Core.List.{[], _∷_}
 use Prim.Native.Nat.{ℕ, _≤_}
 use Rattle.paper.specs.Answers.{Ruling, accept, refuse}
 use Rattle.rows.specs.Places.{uncoded}

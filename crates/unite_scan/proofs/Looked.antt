@@ -1,33 +1,32 @@
 -- A row of the second looked up in the first alone comes to what it comes to in the union so far.
 -- Assumes nothing.
-use mathlib.Core.Path.{_≡_, refl, ap, sym, _∙_, subst}
-use mathlib.Core.Bool.{Bool, true, false, cond}
+use mathlib.Core.Path.{_≡_, refl, ap, sym, _∙_}
+use mathlib.Core.Bool.{false}
 use mathlib.Core.Option.{Option, none, some}
-use mathlib.Core.List.{List, [], _∷_, _++_, map}
-use Prim.Native.Nat.{ℕ, zero, suc, _<_, _≤_}
+use mathlib.Core.List.{List, _∷_, map}
+use Prim.Native.Nat.{ℕ, _≤_}
 use native.Mathlib.Omega.{arith}
 use borrow.Author.Tests.{eq-eqb, ne-eqb}
 use lib.Dec.{eqb}
 use lib.ListN.{length}
 use Rattle.laws.proofs.Tests.{never}
 use Rattle.paper.specs.declared.Mode.{Mode}
-use Rattle.paper.specs.Rows.{Row, Table, find}
+use Rattle.paper.specs.Rows.{Row, find}
 use Rattle.paper.specs.Answers.{Ruling, accept, refuse, then}
 use Rattle.paper.specs.Build.{Standing}
-use Rattle.paper.specs.Unite.{taken, matched, United}
+use Rattle.paper.specs.Unite.{taken, matched}
 use Rattle.rows.specs.Places.{uncoded}
-use Rattle.trees.specs.Reach.{Seat, Finder, sit, seat-of, onward, Word, said}
+use Rattle.trees.specs.Reach.{Seat, seat-of, onward, Word, said}
 use Rattle.trees.specs.Views.{join}
 use Rattle.trees.proofs.Paths.{path, word, onward-some, onward-none, low}
 use Rattle.trees.proofs.Paint.{paint}
 use Rattle.trees.proofs.Tree.{Tree}
-use Rattle.trees.proofs.Words.{join-none, join-off}
+use Rattle.trees.proofs.Words.{join-none}
 use Rattle.trees.proofs.Order.{Next}
 use Rattle.trees.proofs.Took.{lead}
-use Rattle.trees.proofs.Matching.{Matching, start-of}
+use Rattle.trees.proofs.Matching.{Matching}
 use Rattle.unite_taking.specs.Taking.{so-far, taking}
 use Rattle.unite_scan.specs.Looking.{seek, looked}
-use Rattle.unite_taking.proofs.Steps.{one-row}
 use Rattle.unite_taking.proofs.Ongoing.{plain}
 
 -- the match that a seat stands for

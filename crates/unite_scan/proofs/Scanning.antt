@@ -1,10 +1,9 @@
 -- The second's rows looked up in the first from a place on: what the map holds, and what is left.
 -- Assumes nothing.
 use mathlib.Core.Path.{_≡_, refl, ap, sym, _∙_, subst}
-use mathlib.Core.Bool.{Bool, true, false, cond}
 use mathlib.Core.Option.{Option, none, some}
 use mathlib.Core.List.{List, [], _∷_, _++_, List-discrete}
-use Prim.Native.Nat.{ℕ, zero, suc, _+_, _*_, _/_, _<_, _≤_}
+use Prim.Native.Nat.{ℕ, _+_, _/_, _<_, _≤_}
 use native.Mathlib.Omega.{arith}
 use native.Mathlib.Decide.{ℕ-discrete}
 use lib.ListN.{length, getD, set, length-set}
@@ -12,16 +11,15 @@ use lib.Seq.{getD-set-same, getD-set-other}
 use lib.IntN.{ℤ}
 use Rattle.laws.proofs.Tests.{never}
 use Rattle.paper.specs.declared.Mode.{Mode}
-use Rattle.paper.specs.Rows.{Row, Table, rows-in, find}
+use Rattle.paper.specs.Rows.{Row, rows-in, find}
 use Rattle.paper.specs.Answers.{Ruling, accept, refuse}
-use Rattle.paper.specs.Build.{Standing}
-use Rattle.paper.specs.Unite.{United, matched, take-rows}
+use Rattle.paper.specs.Unite.{matched, take-rows}
 use Rattle.rows.specs.Places.{row-at, rest}
 use Rattle.rows.proofs.Rest.{rest-cons, rest-end, length-rows}
 use Rattle.rows.proofs.Fits.{Fit}
 use Rattle.rows.proofs.Passing.{fit-at}
 use Rattle.counts.specs.Arrays.{Clear}
-use Rattle.trees.specs.Reach.{Seat, Finder, sit, said, seat-of, onward}
+use Rattle.trees.specs.Reach.{Seat, sit, said, seat-of, onward}
 use Rattle.trees.proofs.Tree.{Tree}
 use Rattle.trees.proofs.Paths.{path, word, onward-inv}
 use Rattle.trees.proofs.Grown.{Grown, grown-here, grown-other}
@@ -31,7 +29,7 @@ use Rattle.trees.proofs.Matching.{Matching, start-of, grown-D}
 use Rattle.unite_taking.specs.Taking.{so-far, all-rows, Clashes, Accepts, Treed}
 use Rattle.unite_scan.specs.Looking.{seek, looked, Looks}
 use Rattle.unite_scan.specs.declared.Look.{Look}
-use Rattle.unite_taking.proofs.Steps.{one-row, after, step-refused, step-taken, match-on, first-row}
+use Rattle.unite_taking.proofs.Steps.{step-refused, step-taken, match-on, first-row}
 use Rattle.unite_taking.proofs.Ongoing.{plain, matching-none}
 use Rattle.unite_scan.proofs.Looked.{
   mark,

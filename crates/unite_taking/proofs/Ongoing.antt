@@ -2,9 +2,9 @@
 -- Assumes nothing.
 use mathlib.Core.Path.{_≡_, refl, ap, sym, _∙_, subst}
 use mathlib.Core.Bool.{Bool, true, false, cond}
-use mathlib.Core.Option.{Option, none, some}
+use mathlib.Core.Option.{Option, none}
 use mathlib.Core.List.{List, [], _∷_, _++_}
-use Prim.Native.Nat.{ℕ, zero, suc, _+_, _*_, _/_, _<_, _≤_}
+use Prim.Native.Nat.{ℕ, _+_, _/_, _<_, _≤_}
 use native.Mathlib.Omega.{arith}
 use borrow.Author.Tests.{eq-eqb, ne-eqb}
 use lib.Dec.{eqb}
@@ -14,10 +14,10 @@ use Rattle.laws.proofs.Tests.{never}
 use Rattle.paper.specs.declared.Mode.{Mode}
 use Rattle.paper.specs.declared.Mode.the-variants.{Archive, Intake}
 use Rattle.paper.specs.Rows.{Row, Table, rows-in}
-use Rattle.paper.specs.Answers.{Ruling, accept, refuse}
+use Rattle.paper.specs.Answers.{refuse}
 use Rattle.paper.specs.Build.{Standing}
 use Rattle.paper.specs.Predict.{or-else}
-use Rattle.paper.specs.Unite.{United, matched, take-rows}
+use Rattle.paper.specs.Unite.{matched, take-rows}
 use Rattle.rows.specs.Places.{row-at, rest}
 use Rattle.rows.proofs.Rest.{rest-cons, rest-end}
 use Rattle.rows.proofs.Fits.{Fit}

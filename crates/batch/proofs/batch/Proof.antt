@@ -1,11 +1,8 @@
-use mathlib.Core.Path.{_≡_, sym, ap, _∙_}
-use mathlib.Core.Bool.{false}
+use mathlib.Core.Path.{sym, _∙_}
 use lib.ListN.{length}
-use Rattle.paper.specs.Rows.{table}
 use Rattle.paper.specs.Checks.{row-slice, plain}
 use Rattle.paper.specs.declared.Refusal.the-variants as refusal
 use Rattle.rows.proofs.Signed.{same}
-use Rattle.paper.specs.Batch.{window-lengths}
 use Rattle.laws.proofs.Writing.{refused}
 use Rattle.batch.proofs.Counts.{lengths-passed}
 use Rattle.batch.proofs.Batched.{

@@ -1,17 +1,16 @@
 use mathlib.Core.Path.{_≡_, refl, sym, ap, _∙_}
-use Prim.Native.Nat.{ℕ, zero, suc, _+_, _-_, _*_, _≤_}
+use Prim.Native.Nat.{ℕ, suc, _+_, _-_, _*_, _≤_}
 use native.Mathlib.Omega.{arith}
 use native.Mathlib.Nat.{zero-mul, sub-zero, zero-add}
-use mathlib.Core.List.{List, _∷_}
-use lib.ListN.{length, set, take, drop, length-set}
+use mathlib.Core.List.{List}
+use lib.ListN.{length, set, drop, length-set}
 use lib.Seq.{drop-drop}
-use lib.IntN.{ℤ}
 use mir.Syntax.{w32}
 use mir.Val.{toZ, ofZ}
 use Rattle.paper.specs.Rows.{table}
 use Rattle.rows.proofs.Signed.{same, back}
 use Rattle.rows.proofs.Judged.{plain-bounded}
-use Rattle.predict.specs.Checked.{Sound, checked}
+use Rattle.predict.specs.Checked.{checked}
 use Rattle.batch.proofs.Counts.{window-there, next-place, few-tokens}
 use Rattle.batch.proofs.Windows.{once-done, one-more, all-done}
 use borrow.Author.Needs.{needs}

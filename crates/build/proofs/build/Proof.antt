@@ -7,7 +7,6 @@ use native.Mathlib.Omega.{arith}
 use lib.ListN.{length}
 use Rattle.paper.specs.Rows.{natural}
 use Rattle.paper.specs.Build.{build-range}
-use Rattle.rows.specs.Places.{Reads}
 use Rattle.rows.proofs.Signed.{same, read-passed}
 use Rattle.build_checks.proofs.Checked.{production-in, sane}
 use Rattle.build.proofs.Answering.{refused-lengths, refused-range, accepted}

@@ -1,4 +1,4 @@
-use mathlib.Core.Path.{ap, sym, _∙_}
+use mathlib.Core.Path.{ap, _∙_}
 use mathlib.Core.Bool.{not}
 use Rattle.build_checks.proofs.Checked.{room-out, many-out, sums-left}
 use borrow.Author.Needs.{needs}

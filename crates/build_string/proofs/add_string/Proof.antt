@@ -1,6 +1,4 @@
-use mathlib.Core.Path.{refl, ap, subst, sym}
-use mathlib.Core.List.{List}
-use Rattle.paper.specs.Rows.{Row}
+use mathlib.Core.Path.{refl, subst, sym}
 use Rattle.paper.specs.Build.{Standing, walk-in}
 use Rattle.trees.proofs.Tree.{Tree}
 use Rattle.grow_laws.specs.Held.{view}

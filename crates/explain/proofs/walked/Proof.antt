@@ -2,10 +2,10 @@ use Rattle.rows.proofs.Passing.{fit-at}
 use Rattle.search.specs.Search.{Finds}
 use Rattle.search.specs.declared.Found.the-variants.{At}
 use mathlib.Core.Path.{_≡_, refl, sym, ap, _∙_}
-use Prim.Native.Nat.{ℕ, _+_, _-_, _≤_}
+use Prim.Native.Nat.{_-_, _≤_}
 use native.Mathlib.Omega.{arith}
 use borrow.Author.Needs.{needs}
-use lib.ListN.{length, getD, drop}
+use lib.ListN.{length, drop}
 use Rattle.paper.specs.Rows.{rows-in, find}
 use Rattle.paper.specs.Explain.{stop}
 use Rattle.explain.proofs.Walking.{stop-on, stop-here, stop-end}

@@ -2,12 +2,9 @@ use Rattle.rows.proofs.Signed.{same}
 use mathlib.Core.Path.{ap, _∙_}
 use borrow.Author.Tests.{lt-ltb, le-ltb}
 use lib.IntN.{ℤ}
-use mir.Syntax.{w32}
-use mir.Facts.{toZ-ofZ}
 use Rattle.paper.specs.Rows.{table}
 use Rattle.paper.specs.Predict.{chosen}
 use Rattle.predict.specs.Checked.{checked}
-use borrow.Author.Needs.{needs}
 use Rattle.predict.proofs.predict_checked.Statement.{statement}
 use Rattle.predict.proofs.predict_checked.Tie as tie
 

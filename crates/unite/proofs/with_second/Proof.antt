@@ -1,14 +1,8 @@
 use mathlib.Core.Path.{sym}
-use lib.IntN.{ℤ}
-use Rattle.paper.specs.declared.Making.{Making}
 use Rattle.paper.specs.Rows.{table}
-use Rattle.paper.specs.Answers.{Makes}
 use Rattle.paper.specs.Checks.{tree}
 use Rattle.paper.specs.Unite.{united}
-use Rattle.rows.specs.Verdicts.{Judges}
-use Rattle.rows.specs.declared.verdict.Verdict.{Verdict}
 use Rattle.rows.proofs.Signed.{same}
-use Rattle.unite.specs.Whole.{Passes}
 use Rattle.unite.proofs.Outcomes.{checks-refuse, checks-pass, judges-as, passes-as, united-as}
 use borrow.Author.Needs.{needs}
 use Rattle.unite.proofs.with_second.Statement.{statement}

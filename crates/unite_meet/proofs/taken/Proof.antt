@@ -1,6 +1,4 @@
 use Rattle.rows.specs.Places.{uncoded}
-use Rattle.unite_meet.specs.Met.{Meets}
-use Rattle.unite_meet.specs.declared.Meet.the-variants.{Code, Clash}
 use Rattle.unite_meet.proofs.Meets.{intake-taken, archive-taken, archive-clash}
 use borrow.Author.Needs.{needs}
 use Rattle.unite_meet.proofs.taken.Statement.{statement}

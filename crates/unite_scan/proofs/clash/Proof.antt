@@ -1,9 +1,9 @@
-use mathlib.Core.Path.{_≡_, refl, ap, sym, _∙_}
-use Prim.Native.Nat.{ℕ, _+_, _-_, _/_, _<_, _≤_}
+use mathlib.Core.Path.{_≡_, ap, _∙_}
+use Prim.Native.Nat.{ℕ, _-_, _/_}
 use native.Mathlib.Omega.{arith}
-use lib.ListN.{length, getD, set}
+use lib.ListN.{length, getD}
 use borrow.Author.Needs.{needs}
-use Rattle.paper.specs.Rows.{Row, rows-in}
+use Rattle.paper.specs.Rows.{rows-in}
 use Rattle.rows.specs.Places.{row-at, uncoded}
 use Rattle.rows.proofs.Fits.{Fit}
 use Rattle.unite_scan.specs.Looking.{seek, looked, Looks}

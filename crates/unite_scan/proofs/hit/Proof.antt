@@ -1,4 +1,4 @@
-use mathlib.Core.Path.{ap, sym, _∙_}
+use mathlib.Core.Path.{ap, _∙_}
 use native.Mathlib.Omega.{arith}
 use Rattle.rows.specs.Places.{row-at, uncoded}
 use Rattle.rows.proofs.Passing.{fit-at}

@@ -1,9 +1,9 @@
-use mathlib.Core.Path.{subst, sym}
-use mathlib.Core.Option.{Option, some}
+use mathlib.Core.Path.{subst}
+use mathlib.Core.Option.{Option}
 use Rattle.paper.specs.Rows.{Row, rows-in}
-use Rattle.rows.specs.Places.{row-at, uncoded}
+use Rattle.rows.specs.Places.{uncoded}
 use Rattle.search.specs.Search.{Finds}
-use Rattle.search.specs.declared.Found.the-variants.{At, Missing}
+use Rattle.search.specs.declared.Found.the-variants.{At}
 use Rattle.unite_scan.specs.Looking.{looked, Looks}
 use Rattle.unite_scan.proofs.Looked.{look-none, seek-is, look-missing}
 use borrow.Author.Needs.{needs}

@@ -1,11 +1,8 @@
-use mathlib.Core.Path.{_≡_, refl, ap, sym, _∙_, subst}
-use Prim.Native.Nat.{ℕ, _+_, _-_, _/_, _<_, _≤_}
+use mathlib.Core.Path.{_≡_, refl, ap, _∙_}
+use Prim.Native.Nat.{ℕ, _-_, _/_}
 use native.Mathlib.Omega.{arith}
-use lib.ListN.{length, getD, set}
+use lib.ListN.{length, getD}
 use borrow.Author.Needs.{needs}
-use Rattle.paper.specs.Rows.{Row}
-use Rattle.paper.specs.Answers.{Ruling}
-use Rattle.paper.specs.Build.{Standing}
 use Rattle.paper.specs.Unite.{matched}
 use Rattle.rows.specs.Places.{row-at, uncoded}
 use Rattle.rows.proofs.Fits.{Fit}

@@ -3,7 +3,6 @@ use Rattle.rows.specs.Places.{code}
 use Rattle.rows.proofs.Signed.{read-passed}
 use mathlib.Core.Path.{ap, _∙_}
 use mathlib.Core.Bool.{not}
-use native.Mathlib.Omega.{arith}
 use Rattle.rows.proofs.Fits.{prod0-out, k-out, rows-left}
 use borrow.Author.Needs.{needs}
 use Rattle.rows.proofs.checks.range.Statement.{statement}

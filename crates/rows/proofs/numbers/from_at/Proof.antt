@@ -1,4 +1,4 @@
-use Prim.Native.Nat.{_+_, _*_}
+use Prim.Native.Nat.{_*_}
 use Rattle.rows.proofs.Signed as s
 use Rattle.paper.specs.Rows.{natural}
 use borrow.Author.Needs.{needs}

@@ -106,10 +106,13 @@ use Rattle.text_lines.proofs.ends.Line as S
 use Rattle.text_lines.proofs.ends.Line.Laws as S′
 use Rattle.text_lines.proofs.reader.placed as placed
 use Rattle.text_lines.proofs.reader.placed.Symbol as placed-def
+use Rattle.text_lines.proofs.reader.placed.Symbol.{name as #text-lines·reader·placed}
 use Rattle.text_lines.proofs.reader.placed.Met as placed-thm
 use Rattle.text_lines.proofs.reader.line as line
 use Rattle.text_lines.proofs.reader.line.Symbol as line-def
+use Rattle.text_lines.proofs.reader.line.Symbol.{name as #text-lines·reader·line}
 use Rattle.text_lines.proofs.reader.line.Met as line-thm
+use Rattle.text_lines.proofs.reader.line_at.Key.{name as #text-lines·reader·line-at}
 use Rattle.text_lines.proofs.reader.line_at as line-at
 use Rattle.text_lines.proofs.reader.line_at.Statement as stated
 use Rattle.text_lines.proofs.reader.line_at.Code as code

@@ -71,6 +71,7 @@ use denote.Exit.{yes}
 use Rattle.text_lines.specs.declared.reader.Reader.{Reader}
 use Rattle.text_lines.proofs.reader.Reader as T
 use Rattle.text_lines.proofs.reader.Reader.Laws as T′
+use Rattle.text_lines.proofs.reader.placed.Key.{name as #text-lines·reader·placed}
 use Rattle.text_lines.proofs.reader.placed as placed
 use Rattle.text_lines.proofs.reader.placed.Statement as stated
 use Rattle.text_lines.proofs.reader.placed.Code as code
