@@ -1,13 +1,30 @@
-use Prim.Native.Nat.{_+_, _*_, _≤_}
+use mathlib.Core.Path.{_≡_}
+use mathlib.Core.Bool.{true}
+use mathlib.Core.List.{List}
+use Prim.Native.Nat.{ℕ, _+_, _*_, _/_, _<_, _≤_}
 use native.Mathlib.Omega.{arith}
-use lib.ListN.{getD}
-use lib.IntN.{pos}
-use Rattle.paper.specs.Rows.{natural}
+use borrow.Author.Needs.{needs}
+use lib.ListN.{length, getD}
+use lib.IntN.{ℤ, pos}
+use Rattle.paper.specs.Rows.{natural, rows-in}
+use Rattle.paper.specs.Checks.{every, row-fits}
 use Rattle.rows.proofs.Signed.{plain-cast, plain-read}
 use Rattle.rows.proofs.Fits.{fits-at}
-use borrow.Author.Needs.{needs}
 use Rattle.rows.proofs.numbers.key_at.Statement.{statement}
 use Rattle.rows.proofs.numbers.key_at.Tie as tie
+
+abbrev first : List ℤ → ℕ → ℤ
+first ns i = getD ns (i * 4) (pos 0)
+
+abbrev second : List ℤ → ℕ → ℤ
+second ns i = getD ns (i * 4 + 1) (pos 0)
+
+module _ (ns : List ℤ) (e : every row-fits (rows-in ns) ≡ true) (i : ℕ) (l : i < length ns / 4) where
+  from : natural (first ns i) ≤ 65535
+  from = omega (arith, fits-at ns e i l .from)
+
+  terminal : natural (second ns i) ≤ 65535
+  terminal = fits-at ns e i l .terminal
 
 mul-result : tie.Need-mul-result
 mul-result c = search needs
@@ -21,16 +38,15 @@ shared-slice-copy-out-result c = search needs
 cast-result : tie.Need-cast-result
 cast-result c =
     let s = c .before in
-    let f = fits-at (s .args .rows .now) (s .pre .0) (s .args .i) (s .pre .1) in
-    let b : natural (getD (s .args .rows .now) (s .args .i * 4) (pos 0)) ≤ 65535 = omega (arith, f .from) in
-    plain-cast (getD (s .args .rows .now) (s .args .i * 4) (pos 0)) b (c .result .given)
+    plain-cast (first (s .args .rows .now) (s .args .i)) (from (s .args .rows .now) (s .pre .0) (s .args .i) (s .pre .1)) (c .result .given)
 
 mul-result-3 : tie.Need-mul-result-3
 mul-result-3 c =
     let s = c .before in
-    let f = fits-at (s .args .rows .now) (s .pre .0) (s .args .i) (s .pre .1) in
-    let b : natural (getD (s .args .rows .now) (s .args .i * 4) (pos 0)) ≤ 65535 = omega (arith, f .from) in
-    omega (arith, plain-read (getD (s .args .rows .now) (s .args .i * 4) (pos 0)) b (c .result .given))
+    let ns = s .args .rows .now in
+    let i = s .args .i in
+    let b = from ns (s .pre .0) i (s .pre .1) in
+    omega (arith, b, plain-read (first ns i) b (c .result .given))
 
 mul-result-4 : tie.Need-mul-result-4
 mul-result-4 c = search needs
@@ -47,34 +63,25 @@ shared-slice-copy-out-result-2 c = search needs
 cast-result-2 : tie.Need-cast-result-2
 cast-result-2 c =
     let s = c .before .before in
-    let f = fits-at (s .args .rows .now) (s .pre .0) (s .args .i) (s .pre .1) in
-    plain-cast (getD (s .args .rows .now) (s .args .i * 4 + 1) (pos 0)) (f .terminal) (c .result2 .given)
+    plain-cast (second (s .args .rows .now) (s .args .i)) (terminal (s .args .rows .now) (s .pre .0) (s .args .i) (s .pre .1)) (c .result2 .given)
 
 add-result-2 : tie.Need-add-result-2
 add-result-2 c =
-    let r = c .before in
-    let s = r .before in
-    let f = fits-at (s .args .rows .now) (s .pre .0) (s .args .i) (s .pre .1) in
-    let b : natural (getD (s .args .rows .now) (s .args .i * 4) (pos 0)) ≤ 65535 = omega (arith, f .from) in
-    omega (
-      arith,
-      plain-read (getD (s .args .rows .now) (s .args .i * 4) (pos 0)) b (r .result .given),
-      plain-read
-          (getD (s .args .rows .now) (s .args .i * 4 + 1) (pos 0)) (f .terminal) (c .result2 .given),
-    )
+    let s = c .before .before in
+    let ns = s .args .rows .now in
+    let i = s .args .i in
+    let b = from ns (s .pre .0) i (s .pre .1) in
+    let d = terminal ns (s .pre .0) i (s .pre .1) in
+    omega (arith, b, d, plain-read (first ns i) b (c .before .result .given), plain-read (second ns i) d (c .result2 .given))
 
 returns : tie.Need-returns
 returns c =
-    let r = c .before in
-    let s = r .before in
-    let f = fits-at (s .args .rows .now) (s .pre .0) (s .args .i) (s .pre .1) in
-    let b : natural (getD (s .args .rows .now) (s .args .i * 4) (pos 0)) ≤ 65535 = omega (arith, f .from) in
-    omega (
-      arith,
-      plain-read (getD (s .args .rows .now) (s .args .i * 4) (pos 0)) b (r .result .given),
-      plain-read
-          (getD (s .args .rows .now) (s .args .i * 4 + 1) (pos 0)) (f .terminal) (c .result2 .given),
-    )
+    let s = c .before .before in
+    let ns = s .args .rows .now in
+    let i = s .args .i in
+    let b = from ns (s .pre .0) i (s .pre .1) in
+    let d = terminal ns (s .pre .0) i (s .pre .1) in
+    omega (arith, plain-read (first ns i) b (c .before .result .given), plain-read (second ns i) d (c .result2 .given))
 
 pub key-at-spec : {M : Type 1} → statement M
 key-at-spec =
