@@ -1,7 +1,8 @@
 -- `replay` is safe and ends: the turns left fall, and the slices stay as long. Assumes nothing.
 use borrow.Author.Needs.{needs}
-use mathlib.Core.Path.{_≡_}
-use lib.ListN.{length}
+use mathlib.Core.Path.{_≡_, refl, sym}
+use Prim.Native.Nat.{ℕ}
+use lib.ListN.{length, length-replicate}
 use Rattle.replay.proofs.replay.Statement.{statement}
 use Rattle.replay.proofs.replay.Tie as tie
 
@@ -12,7 +13,8 @@ abbrev μ-loop : tie.MeasureT-loop
 μ-loop counts₀ bytes₀ numbers₀ turns₀ counts bytes numbers turns = turns
 
 loop-holds : tie.Need-loop-holds Inv-loop μ-loop
-loop-holds c = search needs
+loop-holds c =
+    (refl, sym (length-replicate {A = ℕ} 131072 0), sym (length-replicate {A = ℕ} 131072 0))
 
 slice-aggregate-one : tie.Need-slice-aggregate-one Inv-loop μ-loop
 slice-aggregate-one c = search needs
