@@ -24,9 +24,9 @@ pub fn counted(case: &[usize], place: usize) -> &[usize] {
     front_lengths(after(head, 1), at(head, 0))
 }
 
-// The place behind them.
-pub fn past(case: &[usize], place: usize) -> usize {
-    behind(place, 1, at(case, place))
+// What stands behind them.
+pub fn beyond(case: &[usize], place: usize) -> &[usize] {
+    after(case, behind(place, 1, at(case, place)))
 }
 
 // The place behind a head and as many numbers. No case has a million.

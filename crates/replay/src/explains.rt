@@ -12,7 +12,7 @@ pub fn asked(case: &[usize]) -> Outcome {
     let table = slice::table(case, 0, &mut rows);
     slice::tokens(slice::counted(case, table.next), &mut tokens);
     called(
-        slice::after(case, slice::past(case, table.next)),
+        slice::beyond(case, table.next),
         table.prod0,
         table.k,
         slice::front_numbers(&rows, table.count),

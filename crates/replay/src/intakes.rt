@@ -6,30 +6,49 @@ use cases::tally::Outcome;
 use paper::Making;
 use paper::Mode;
 
-// The call, with as much of the output as the case says, and then its windows.
-pub fn asked(case: &[usize], out: &mut [i32]) -> Outcome {
+pub fn asked(case: &[usize]) -> Outcome {
     let mut productions = [0i32; 2000];
-    let mut tokens = [0u16; 20000];
-    let counts = slice::past(case, 0);
-    let lengths = slice::past(case, counts);
-    let place = slice::past(case, lengths);
-    let rest = slice::after(case, slice::past(case, place));
     slice::signed(slice::counted(case, 0), &mut productions);
-    slice::tokens(slice::counted(case, place), &mut tokens);
-    let room = slice::lent(rest, out);
-    let making = intake::shrunk_table(
+    listed(
         slice::front_numbers(&productions, slice::at(case, 0)),
-        slice::counted(case, counts),
-        slice::counted(case, lengths),
-        slice::front_tokens(&tokens, slice::at(case, place)),
-        &mut out[..room],
-    );
+        slice::beyond(case, 0),
+    )
+}
+
+// The productions, and a case from its counts on.
+fn listed(productions: &[i32], counts: &[usize]) -> Outcome {
+    let mut tokens = [0u16; 20000];
+    let mut out = [0i32; 20000];
+    let lengths = slice::beyond(counts, 0);
+    let text = slice::beyond(lengths, 0);
+    slice::tokens(slice::counted(text, 0), &mut tokens);
+    called(
+        slice::beyond(text, 0),
+        productions,
+        slice::counted(counts, 0),
+        slice::counted(lengths, 0),
+        slice::front_tokens(&tokens, slice::at(text, 0)),
+        &mut out,
+    )
+}
+
+// The call, with as much of the output as the case says.
+fn called(
+    rest: &[usize],
+    productions: &[i32],
+    counts: &[usize],
+    lengths: &[usize],
+    tokens: &[u16],
+    out: &mut [i32],
+) -> Outcome {
+    let room = slice::lent(rest, out);
+    let making = intake::shrunk_table(productions, counts, lengths, tokens, &mut out[..room]);
     judged(slice::after(rest, 1), making, out)
 }
 
 // The answer stands behind the windows, which are asked of a table that was made.
 fn judged(rest: &[usize], making: Making, out: &[i32]) -> Outcome {
-    let expected = slice::after(rest, slice::past(rest, 0));
+    let expected = slice::beyond(rest, 0);
     match making {
         Making::Made {
             prod0,

@@ -78,15 +78,14 @@ fn told(bytes: &[u8], whole: &[usize], counts: &mut [usize]) {
 }
 
 fn asked(call: usize, case: &[usize], bytes: &[u8]) -> Outcome {
-    let mut out = [0i32; 20000];
     if call == 0 {
-        return builds::asked(case, &mut out);
+        return builds::asked(case);
     }
     if call == 1 {
-        return unites::asked(case, &mut out);
+        return unites::asked(case);
     }
     if call == 2 {
-        return shrinks::asked(case, &mut out);
+        return shrinks::asked(case);
     }
     if call == 3 {
         return predicts::asked(case);
@@ -95,9 +94,9 @@ fn asked(call: usize, case: &[usize], bytes: &[u8]) -> Outcome {
         return explains::asked(case);
     }
     if call == 5 {
-        return intakes::asked(case, &mut out);
+        return intakes::asked(case);
     }
-    texts::asked(case, bytes, &mut out)
+    texts::asked(case, bytes)
 }
 
 // Counts a case of the call whose counts start there.

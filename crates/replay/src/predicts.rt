@@ -19,7 +19,7 @@ pub fn asked(case: &[usize]) -> Outcome {
         slice::at(stream, 0),
         slice::front_tokens(&tokens, slice::at(stream, 1)),
     );
-    compared(slice::after(stream, slice::past(stream, 1)), prediction)
+    compared(slice::beyond(stream, 1), prediction)
 }
 
 // The production and the rows entered, or the refusal's number and two 0.

@@ -7,9 +7,14 @@ use paper::Writing;
 ghost use mathlib.Core.Path.{_≡_};
 ghost use lib.ListN.{length};
 
-// Text in, with as much of the output as the case says; the text stands at the end of the case's bytes.
-pub fn asked(case: &[usize], bytes: &[u8], out: &mut [i32]) -> Outcome {
-    let text = slice::back_bytes(bytes, slice::at(case, 0));
+// The text stands at the end of the case's bytes.
+pub fn asked(case: &[usize], bytes: &[u8]) -> Outcome {
+    let mut out = [0i32; 20000];
+    called(case, slice::back_bytes(bytes, slice::at(case, 0)), &mut out)
+}
+
+// Text in, with as much of the output as the case says.
+fn called(case: &[usize], text: &[u8], out: &mut [i32]) -> Outcome {
     let room = slice::lent(slice::after(case, 1), out);
     let reading = text_in::text_in(text, &mut out[..room]);
     judged(slice::counted(case, 2), reading, text, out)

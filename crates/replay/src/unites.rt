@@ -1,24 +1,46 @@
 // The cases of unite.
 use cases::answer;
 use cases::slice;
+use cases::slice::Head;
 use cases::tally::Outcome;
+use paper::Mode;
 
-// The call, with as much of the output as the case says.
-pub fn asked(case: &[usize], out: &mut [i32]) -> Outcome {
+pub fn asked(case: &[usize]) -> Outcome {
     let mut rows = [0i32; 20000];
     let mut others = [0i32; 20000];
+    let mut out = [0i32; 20000];
     let first = slice::table(case, 1, &mut rows);
     let second = slice::table(case, first.next, &mut others);
-    let rest = slice::after(case, second.next);
+    called(
+        slice::after(case, second.next),
+        answer::mode(slice::at(case, 0)),
+        first,
+        slice::front_numbers(&rows, first.count),
+        second,
+        slice::front_numbers(&others, second.count),
+        &mut out,
+    )
+}
+
+// The call, with as much of the output as the case says.
+fn called(
+    rest: &[usize],
+    mode: Mode,
+    first: Head,
+    rows: &[i32],
+    second: Head,
+    others: &[i32],
+    out: &mut [i32],
+) -> Outcome {
     let room = slice::lent(rest, out);
     let making = unite::unite(
-        answer::mode(slice::at(case, 0)),
+        mode,
         first.prod0,
         first.k,
-        slice::front_numbers(&rows, first.count),
+        rows,
         second.prod0,
         second.k,
-        slice::front_numbers(&others, second.count),
+        others,
         &mut out[..room],
     );
     answer::compared(slice::after(rest, 1), making, out)
