@@ -1,11 +1,11 @@
 // Modes, and what a call that makes a table answered, compared with the list: the answer, the rows at the front of the
 // output, and the pattern behind them.
-use crate::number;
-use crate::slice;
 use crate::tally::Outcome;
 use paper::Making;
 use paper::Mode;
 use paper::Refusal;
+use parts::number;
+use parts::slice;
 
 // The mode of a number of the list.
 pub fn mode(n: usize) -> Mode {

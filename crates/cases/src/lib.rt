@@ -1,5 +1,3 @@
 // Reads the cases of the fixed list (oracle/list/README.md has their form) and keeps the tally of a run.
 pub mod answer;
-pub mod number;
-pub mod slice;
 pub mod tally;

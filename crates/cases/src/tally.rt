@@ -1,7 +1,7 @@
 // The cases of standard input one after the other, and the counts that a run prints.
-use crate::slice;
 use libc::STDIN_FILENO;
 use libc::STDOUT_FILENO;
+use parts::slice;
 ghost use Rattle.io.specs.Counts.{Counts};
 
 // Counts of 17: at a refusal's number how often it was answered, at 0 the acceptances, then these two.

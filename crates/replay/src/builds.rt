@@ -1,8 +1,8 @@
 // The cases of build.
 use cases::answer;
-use cases::number;
-use cases::slice;
 use cases::tally::Outcome;
+use parts::number;
+use parts::slice;
 
 pub fn asked(case: &[usize]) -> Outcome {
     let mut tokens = [0u16; 20000];

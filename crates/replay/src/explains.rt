@@ -1,9 +1,9 @@
 // The cases of explain.
 use cases::answer;
-use cases::slice;
 use cases::tally::Outcome;
 use explain::Part;
 use paper::Explanation;
+use parts::slice;
 
 // The three calls of one table.
 pub fn asked(case: &[usize]) -> Outcome {

@@ -1,10 +1,10 @@
 // The cases of the intake desk's call: the table that it makes, and what that predicts.
 use crate::predicts;
 use cases::answer;
-use cases::slice;
 use cases::tally::Outcome;
 use paper::Making;
 use paper::Mode;
+use parts::slice;
 
 pub fn asked(case: &[usize]) -> Outcome {
     let mut productions = [0i32; 2000];

@@ -1,8 +1,8 @@
 // The cases of predict.
 use cases::answer;
-use cases::slice;
 use cases::tally::Outcome;
 use paper::Prediction;
+use parts::slice;
 
 // The call, and its answer compared.
 pub fn asked(case: &[usize]) -> Outcome {

@@ -1,8 +1,8 @@
 // The cases of shrink.
 use cases::answer;
-use cases::slice;
 use cases::tally::Outcome;
 use paper::Mode;
+use parts::slice;
 
 pub fn asked(case: &[usize]) -> Outcome {
     let mut rows = [0i32; 20000];

@@ -1,9 +1,9 @@
 // The cases of text in and text out: what is read from a text, and the text that is written of that.
 use cases::answer;
-use cases::slice;
 use cases::tally::Outcome;
 use paper::Reading;
 use paper::Writing;
+use parts::slice;
 ghost use mathlib.Core.Path.{_≡_};
 ghost use lib.ListN.{length};
 

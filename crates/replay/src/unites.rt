@@ -1,9 +1,9 @@
 // The cases of unite.
 use cases::answer;
-use cases::slice;
-use cases::slice::Head;
 use cases::tally::Outcome;
 use paper::Mode;
+use parts::slice;
+use parts::slice::Head;
 
 pub fn asked(case: &[usize]) -> Outcome {
     let mut rows = [0i32; 20000];

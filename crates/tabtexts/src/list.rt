@@ -1,6 +1,6 @@
 // The list of texts: on each line a name, `|` and the text, in which `~` stands for LF, `^` for CR and `!` for a tab.
 use crate::say;
-use cases::slice;
+use parts::slice;
 
 // The first place of a byte, from a place on; the end if there is none.
 fn find(list: &[u8], from: usize, b: u8) -> usize {

@@ -1,7 +1,7 @@
 -- `room` meets its contract: it is at most the length, so the prefix is as long as it says. Assumes nothing.
 use native.Mathlib.Omega.{arith}
 use lib.ListN.{length}
-use Rattle.cases.proofs.Bounds.{prefix}
+use Rattle.parts.proofs.Bounds.{prefix}
 use Rattle.cases.proofs.tally.room.Statement.{statement}
 use Rattle.cases.proofs.tally.room.Tie as tie
 
