@@ -1,16 +1,10 @@
-// Modes, and what a call that makes a table answered, compared with the list: the answer, the rows at the front of the
-// output, and the pattern behind them.
+// What a call that makes a table answered, compared with the list: the answer, the rows at the front of the output, and
+// the pattern behind them.
 use crate::tally::Outcome;
 use paper::Making;
-use paper::Mode;
 use paper::Refusal;
 use parts::number;
 use parts::slice;
-
-// The mode of a number of the list.
-pub fn mode(n: usize) -> Mode {
-    if n == 0 { Mode::Archive } else { Mode::Intake }
-}
 
 // Whether an answer and the output are what the rest of a case says.
 pub fn compared(expected: &[usize], making: Making, out: &[i32]) -> Outcome {

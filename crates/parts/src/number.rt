@@ -1,4 +1,5 @@
 // The numbers of a case: 7 bits a byte, low bits first, the top bit set if more bytes follow.
+use paper::Mode;
 
 // The numbers of some bytes at the end of a slice, and the place of the first: from the last byte to the first, so that
 // each step only appends low bits.
@@ -41,4 +42,9 @@ pub fn signed(turned: usize) -> i32 {
     } else {
         -1 - (half as i32)
     }
+}
+
+// The mode that a number stands for.
+pub fn mode(n: usize) -> Mode {
+    if n == 0 { Mode::Archive } else { Mode::Intake }
 }

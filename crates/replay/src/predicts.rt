@@ -2,6 +2,7 @@
 use cases::answer;
 use cases::tally::Outcome;
 use paper::Prediction;
+use parts::number;
 use parts::slice;
 
 // The call, and its answer compared.
@@ -12,7 +13,7 @@ pub fn asked(case: &[usize]) -> Outcome {
     let stream = slice::after(case, table.next);
     slice::tokens(slice::counted(stream, 1), &mut tokens);
     let prediction = predict::predict(
-        answer::mode(slice::at(case, 0)),
+        number::mode(slice::at(case, 0)),
         table.prod0,
         table.k,
         slice::front_numbers(&rows, table.count),

@@ -2,6 +2,7 @@
 use cases::answer;
 use cases::tally::Outcome;
 use paper::Mode;
+use parts::number;
 use parts::slice;
 
 pub fn asked(case: &[usize]) -> Outcome {
@@ -10,7 +11,7 @@ pub fn asked(case: &[usize]) -> Outcome {
     let table = slice::table(case, 1, &mut rows);
     called(
         slice::after(case, table.next),
-        answer::mode(slice::at(case, 0)),
+        number::mode(slice::at(case, 0)),
         table.prod0,
         table.k,
         slice::front_numbers(&rows, table.count),

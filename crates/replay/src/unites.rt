@@ -2,6 +2,7 @@
 use cases::answer;
 use cases::tally::Outcome;
 use paper::Mode;
+use parts::number;
 use parts::slice;
 use parts::slice::Head;
 
@@ -13,7 +14,7 @@ pub fn asked(case: &[usize]) -> Outcome {
     let second = slice::table(case, first.next, &mut others);
     called(
         slice::after(case, second.next),
-        answer::mode(slice::at(case, 0)),
+        number::mode(slice::at(case, 0)),
         first,
         slice::front_numbers(&rows, first.count),
         second,
