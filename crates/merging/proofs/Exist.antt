@@ -2,33 +2,23 @@
 use mathlib.Core.Path.{_≡_, refl, sym, _∙_, ap, subst}
 use mathlib.Core.Bool.{true, false, false≢true}
 use mathlib.Core.Option.{Option, none, some}
-use mathlib.Core.List.{List}
 use Prim.Native.Nat.{ℕ}
 use lib.ListN.{length}
 use Rattle.laws.proofs.Members.{In}
 use Rattle.paper.specs.declared.Mode.{Mode}
 use Rattle.paper.specs.declared.Mode.the-variants.{Archive, Intake}
-use Rattle.paper.specs.Rows.{Table, states}
+use Rattle.paper.specs.Rows.{Table}
 use Rattle.paper.specs.Checks.{shape}
-use Rattle.paper.specs.Shrink.{Node, production-of, rows-of, nodes, redirect, becomes, gather, gathered}
+use Rattle.paper.specs.Shrink.{Node, nodes, redirect, becomes, gather, gathered}
 use Rattle.merging.specs.Classes.{quotient, Class, Reduced, Climbing}
 use Rattle.merging.specs.Marks.{compared, Alike, Marks}
 use Rattle.merging.proofs.Redirect.{redirect-redirect}
 use Rattle.merging.proofs.Merging.{merge-all-good, merge-all-reduced}
 use Rattle.merging.proofs.Unique.{together}
 use Rattle.merging.proofs.Gathered.{gathered-grounded, gathered-le, Became, became, becomes-accepting}
-use Rattle.merging.proofs.Ruled.{node-at, nodes-in, nodes-climb}
+use Rattle.merging.proofs.Ruled.{P, R, ss, node-at, nodes-in, nodes-climb}
 
 module _ (t : Table) (climbs : shape t ≡ false) where
-  abbrev P : ℕ → Option ℕ
-  P s = production-of (t .prod0) (t .rows) s
-
-  abbrev R : ℕ → List (ℕ × ℕ)
-  R s = rows-of (t .rows) s
-
-  abbrev ss : List ℕ
-  ss = states (t .rows)
-
   up : Climbing (nodes t)
   up = nodes-climb t climbs
 
@@ -60,19 +50,19 @@ module _ (t : Table) (climbs : shape t ≡ false) where
     abbrev mark : ℕ → ℕ
     mark s = d .class (becomes (nodes t) s)
 
-    got : (s : ℕ) → In s ss → (x : Node) × Became (nodes t) up (node-at t s) x
+    got : (s : ℕ) → In s (ss t) → (x : Node) × Became (nodes t) up (node-at t s) x
     got s i = became (nodes t) up (node-at t s) (nodes-in t s i)
 
     -- the rows of a state that does not accept, by marks, are those of the node it becomes, by classes
-    rows-by : (s : ℕ) (x : Node) → Became (nodes t) up (node-at t s) x → P s ≡ none →
-        redirect (d .class) (x .rows) ≡ redirect mark (R s)
-    rows-by s x b e = ap (redirect (d .class)) (b .rows e) ∙ redirect-redirect (d .class) (becomes (nodes t)) (R s)
+    rows-by : (s : ℕ) (x : Node) → Became (nodes t) up (node-at t s) x → P t s ≡ none →
+        redirect (d .class) (x .rows) ≡ redirect mark (R t s)
+    rows-by s x b e = ap (redirect (d .class)) (b .rows e) ∙ redirect-redirect (d .class) (becomes (nodes t)) (R t s)
 
-    counts : (s : ℕ) → compared Archive (P s) ≡ true → P s ≡ none
+    counts : (s : ℕ) → compared Archive (P t s) ≡ true → P t s ≡ none
     unfolding compared
-    counts s h = go (P s) refl
+    counts s h = go (P t s) refl
       where
-        go : (o : Option ℕ) → P s ≡ o → P s ≡ none
+        go : (o : Option ℕ) → P t s ≡ o → P t s ≡ none
         go none e = e
         go (some q) e = absurd (false≢true (ap (compared Archive) (sym e) ∙ h))
 
@@ -80,13 +70,13 @@ module _ (t : Table) (climbs : shape t ≡ false) where
     unfolding gathered compared
     archive-marks = record { one = one; two = two }
       where
-        one : (a b : ℕ) → In a ss → In b ss → mark a ≡ mark b → Alike Archive t mark a b
+        one : (a b : ℕ) → In a (ss t) → In b (ss t) → mark a ≡ mark b → Alike Archive t mark a b
         one a b i j e =
             let (x, f) = got a i in
             let (y, g) = got b j in
             let same = ap (d .class) (f .state) ∙ e ∙ ap (d .class) (sym (g .state)) in
             let h = d .is-class .like x y (f .is-in) (g .is-in) same in
-            let production : P a ≡ P b = sym (f .production) ∙ h .0 ∙ g .production in
+            let production : P t a ≡ P t b = sym (f .production) ∙ h .0 ∙ g .production in
             record {
               production = production;
               rows = λ z.
@@ -94,10 +84,10 @@ module _ (t : Table) (climbs : shape t ≡ false) where
                   sym (rows-by a x f plain) ∙ h .1 ∙ rows-by b y g (sym production ∙ plain);
             }
 
-        two : (a b : ℕ) → In a ss → In b ss → Alike Archive t mark a b → mark a ≡ mark b
-        two a b i j h = go (P a) refl
+        two : (a b : ℕ) → In a (ss t) → In b (ss t) → Alike Archive t mark a b → mark a ≡ mark b
+        two a b i j h = go (P t a) refl
           where
-            go : (o : Option ℕ) → P a ≡ o → mark a ≡ mark b
+            go : (o : Option ℕ) → P t a ≡ o → mark a ≡ mark b
             go none e =
                 let (x, f) = got a i in
                 let (y, g) = got b j in

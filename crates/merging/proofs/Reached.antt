@@ -9,7 +9,7 @@ use Rattle.laws.proofs.Tests.{never}
 use Rattle.laws.proofs.Members.{In}
 use Rattle.laws.proofs.Find.{find-in}
 use Rattle.paper.specs.declared.Mode.the-variants.{Intake}
-use Rattle.paper.specs.Rows.{Row, Table, find, states}
+use Rattle.paper.specs.Rows.{Row, Table, find}
 use Rattle.paper.specs.Checks.{shape, split}
 use Rattle.paper.specs.Shrink.{rows-of, redirect}
 use Rattle.merging.specs.Marks.{
@@ -25,7 +25,7 @@ use Rattle.merging.specs.Marks.{
 }
 use Rattle.merging.specs.Reach.{reaches-from}
 use Rattle.merging.proofs.States.{to-state}
-use Rattle.merging.proofs.Ruled.{row-production}
+use Rattle.merging.proofs.Ruled.{ss, row-production}
 use Rattle.merging.proofs.Shrunk.{head-lowest, head-is-head, head-production, source-rows, heads-ascending}
 use Rattle.merging.proofs.Redirect.{redirect-over}
 use Rattle.merging.proofs.Find.{out, find-out, out-redirect}
@@ -33,9 +33,6 @@ use Rattle.merging.proofs.HeadRows.{rows-marked, into-head}
 
 module _ (t : Table) (climbs : shape t ≡ false) (whole : split t ≡ false)
     (mark : ℕ → ℕ) (k : Marks Intake t mark) where
-  abbrev ss : List ℕ
-  ss = states (t .rows)
-
   abbrev hs : List ℕ
   hs = heads-of mark t
 
@@ -55,11 +52,11 @@ module _ (t : Table) (climbs : shape t ≡ false) (whole : split t ≡ false)
   seat r = (r .to, r .production)
 
   -- the rows of a state's place are the state's, led to places
-  image-rows : (s : ℕ) → In s ss → rows-of us (f s) ≡ redirect f (rows-of (t .rows) s)
+  image-rows : (s : ℕ) → In s (ss t) → rows-of us (f s) ≡ redirect f (rows-of (t .rows) s)
   unfolding compared
   image-rows s i =
       let source : source-of mark t (c s) ≡ source-of mark t s =
-      ap (highest-of mark 0 ss) (head-lowest Intake t climbs mark k s i .marked) in
+      ap (highest-of mark 0 (ss t)) (head-lowest Intake t climbs mark k s i .marked) in
       rows-marked mark t hs hs (heads-ascending Intake t climbs mark k) (λ x j. j) (c s)
       (head-is-head Intake t climbs mark k s i)
       ∙ ap (λ (x : ℕ). redirect f (rows-of (t .rows) x)) source
@@ -67,7 +64,7 @@ module _ (t : Table) (climbs : shape t ≡ false) (whole : split t ≡ false)
       (λ o p _ _ z. ap (place-among hs) z) (sym (source-rows Intake t climbs mark k s i refl))
 
   -- One token further in both tables.
-  pub step : (s u : ℕ) → In s ss →
+  pub step : (s u : ℕ) → In s (ss t) →
       Option·map seat (find us (f s) u) ≡ Option·map (λ (r : Row). (f (r .to), r .production)) (find (t .rows) s u)
   step s u i = go (find us (f s) u) refl (find (t .rows) s u) refl
       (sym (find-out us (f s) u) ∙ ap (λ (os : List (ℕ × ℕ)). out os u) (image-rows s i)
@@ -96,7 +93,7 @@ module _ (t : Table) (climbs : shape t ≡ false) (whole : split t ≡ false)
           ∙ head-production Intake t climbs mark k (r .to) state ∙ row-production t whole r row in
           λ i. some (to i, production i)
 
-  pub same-from : (σ : List ℕ) (s : ℕ) (p : Option ℕ) → In s ss →
+  pub same-from : (σ : List ℕ) (s : ℕ) (p : Option ℕ) → In s (ss t) →
       reaches-from us (f s) p σ ≡ reaches-from (t .rows) s p σ
   unfolding reaches-from
   same-from [] s p i = refl
@@ -109,7 +106,7 @@ module _ (t : Table) (climbs : shape t ≡ false) (whole : split t ≡ false)
 
       go : (x y : Option Row) → find (t .rows) s u ≡ y →
           Option·map seat x ≡ Option·map (λ (r : Row). (f (r .to), r .production)) y →
-          ((r : Row) → In (r .to) ss →
+          ((r : Row) → In (r .to) (ss t) →
           reaches-from us (f (r .to)) (r .production) σ ≡ reaches-from (t .rows) (r .to) (r .production) σ) →
           After us x ≡ After (t .rows) y
       go none none e z ih = refl

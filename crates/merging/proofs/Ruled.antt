@@ -21,12 +21,18 @@ use Rattle.merging.proofs.States.{states-ascend, zero-state, to-state, 
 
 -- ---- nodes
 
+-- in short: a state's production, its rows, and the states
+abbrev pub P : Table → ℕ → Option ℕ
+P t s = production-of (t .prod0) (t .rows) s
+
+abbrev pub R : Table → ℕ → List (ℕ × ℕ)
+R t s = rows-of (t .rows) s
+
+abbrev pub ss : Table → List ℕ
+ss t = states (t .rows)
+
 abbrev pub node-at : Table → ℕ → Node
-node-at t s = record {
-  state = s;
-  production = production-of (t .prod0) (t .rows) s;
-  rows = rows-of (t .rows) s;
-}
+node-at t s = record { state = s; production = P t s; rows = R t s }
 
 pub nodes-in : (t : Table) (s : ℕ) → In s (states (t .rows)) → In (node-at t s) (nodes t)
 unfolding nodes
