@@ -4,14 +4,17 @@ use mathlib.Core.Bool.{true, false}
 use mathlib.Core.Option.{Option}
 use mathlib.Core.List.{List, _∷_, []}
 use Prim.Native.Nat.{ℕ, _<_, _^_}
-use lib.ListN.{length, getD}
+use lib.ListN.{length}
 use lib.IntN.{ℤ}
 use lib.Signed.{mag}
 use mir.Syntax.{w32}
 use mir.Val.{toZ, ofZ}
+use denote.Enum.Declared.{tagOf}
+use types.Run.{OneOf, miss}
 use Rattle.laws.proofs.RowNumbers.{accepting-signed}
 use Rattle.paper.specs.declared.Refusal.{Refusal}
 use Rattle.paper.specs.declared.Refusal.the-variants as refusal
+use Rattle.paper.proofs.Refusal.{the-type}
 use Rattle.paper.specs.declared.Making.{Making}
 use Rattle.paper.specs.declared.Reading.{Reading}
 use Rattle.paper.specs.declared.Writing.{Writing}
@@ -19,8 +22,8 @@ use Rattle.paper.specs.Rows.{Table, accepting, signed, table}
 use Rattle.paper.specs.Checks.{row-slice, plain}
 use Rattle.paper.specs.Answers.{Ruling, accept, refuse, then, number, detail, made, heard, wrote, Made, Makes, Reads, Writes}
 use Rattle.rows.specs.Places.{code}
-use Rattle.rows.specs.Verdicts.{Judges}
-use Rattle.rows.specs.declared.verdict.Verdict.the-variants.{Pass, Refused}
+use Rattle.row_checks.specs.Verdicts.{Judges}
+use Rattle.row_checks.specs.declared.Verdict.the-variants.{Pass, Refused}
 use Rattle.rows.proofs.Signed.{back}
 use Rattle.handed.specs.Handed.{
   returned,
@@ -46,26 +49,26 @@ first-is l a b vs e d = e ∙ ap (λ (x : ℕ). x ∷ vs) d
 pub second-is : (l : List ℕ) (x a b : ℕ) (vs : List ℕ) → l ≡ x ∷ a ∷ vs → a ≡ b → l ≡ x ∷ b ∷ vs
 second-is l x a b vs e d = e ∙ ap (λ (y : ℕ). x ∷ y ∷ vs) d
 
-by-detail : (f : Refusal) → getD (detail f) 0 0 ∷ getD (detail f) 1 0 ∷ 0 ∷ 0 ∷ [] ≡ four (detail f)
-by-detail refusal.Length = refl
-by-detail refusal.Range = refl
-by-detail refusal.Order = refl
-by-detail refusal.Shape = refl
-by-detail refusal.Loose = refl
-by-detail refusal.Split = refl
-by-detail refusal.Tree = refl
-by-detail (refusal.Clash p q) = refl
-by-detail refusal.Mismatch = refl
-by-detail refusal.Short = refl
-by-detail refusal.None = refl
-by-detail refusal.Root = refl
-by-detail (refusal.Text at) = refl
-by-detail refusal.Full = refl
+-- all refusals but 8 and 13
+abbrev bare : List ℕ
+bare = 0 ∷ 1 ∷ 2 ∷ 3 ∷ 4 ∷ 5 ∷ 6 ∷ 8 ∷ 9 ∷ 10 ∷ 11 ∷ 13 ∷ []
 
--- a detail's two numbers are all of it
-pub two-of : (f : Refusal) (l : List ℕ) (a b : ℕ) → l ≡ a ∷ b ∷ 0 ∷ 0 ∷ [] → a ≡ getD (detail f) 0 0 →
-    b ≡ getD (detail f) 1 0 → l ≡ four (detail f)
-two-of f l a b e d g = e ∙ rw (d, g) (by-detail f)
+-- have no detail
+pub no-detail : (f : Refusal) → OneOf bare (tagOf the-type f) → 0 ∷ 0 ∷ 0 ∷ 0 ∷ [] ≡ four (detail f)
+no-detail refusal.Length k = refl
+no-detail refusal.Range k = refl
+no-detail refusal.Order k = refl
+no-detail refusal.Shape k = refl
+no-detail refusal.Loose k = refl
+no-detail refusal.Split k = refl
+no-detail refusal.Tree k = refl
+no-detail (refusal.Clash p q) k = absurd (miss bare 7 tt k)
+no-detail refusal.Mismatch k = refl
+no-detail refusal.Short k = refl
+no-detail refusal.None k = refl
+no-detail refusal.Root k = refl
+no-detail (refusal.Text at) k = absurd (miss bare 12 tt k)
+no-detail refusal.Full k = refl
 
 -- values by way of what an answer holds
 hand-over : {A B : Type 0} (g : Ruling A) (x : Ruling B) (h : A → B) (f : A → List ℕ) (e : B → List ℕ) (r : ℕ)

@@ -8,8 +8,9 @@ use paper::Refusal;
 use paper::Writing;
 ghost use mathlib.Core.Path.{_≡_};
 ghost use mathlib.Core.List.{[], _∷_};
-ghost use lib.ListN.{getD};
+ghost use Rattle.paper.specs.Rows.{accepting};
 ghost use Rattle.paper.specs.Answers.{number, detail, made, predicted, explained, heard, wrote};
+ghost use Rattle.rows.specs.Places.{code};
 ghost use Rattle.handed.specs.Handed.{mode-of, four, of-heading, of-title, of-chosen, of-count, Hands};
 
 // Mode 0 is archive; any other number is intake.
@@ -30,47 +31,28 @@ pub fn put(answer: &mut [u64; 4], a: u64, b: u64, c: u64, d: u64)
     *answer = [a, b, c, d];
 }
 
-// The first number of a refusal's detail; 0 where there is none.
-fn first_detail(f: Refusal) -> u64
-    ensures { λ r. ⌜ r ≡ getD (detail f) 0 0 ⌝ }
-{
-    match f {
-        Refusal::Length => 0,
-        Refusal::Range => 0,
-        Refusal::Order => 0,
-        Refusal::Shape => 0,
-        Refusal::Loose => 0,
-        Refusal::Split => 0,
-        Refusal::Tree => 0,
-        Refusal::Clash(p, _) => p.0 as u64,
-        Refusal::Mismatch => 0,
-        Refusal::Short => 0,
-        Refusal::None => 0,
-        Refusal::Root => 0,
-        Refusal::Text(at) => at as u64,
-        Refusal::Full => 0,
-    }
+// A refusal's detail: 8 has two numbers, 13 has one; 0 where there is none.
+struct Detail {
+    first: u64,
+    second: u64,
 }
 
-// The second; only 8 has one.
-fn second_detail(f: Refusal) -> u64
-    ensures { λ r. ⌜ r ≡ getD (detail f) 1 0 ⌝ }
+fn detail_of(f: Refusal) -> Detail
+    ensures { λ r. ⌜ r .first ∷ r .second ∷ 0 ∷ 0 ∷ [] ≡ four (detail f) ⌝ }
 {
     match f {
-        Refusal::Length => 0,
-        Refusal::Range => 0,
-        Refusal::Order => 0,
-        Refusal::Shape => 0,
-        Refusal::Loose => 0,
-        Refusal::Split => 0,
-        Refusal::Tree => 0,
-        Refusal::Clash(_, q) => q.0 as u64,
-        Refusal::Mismatch => 0,
-        Refusal::Short => 0,
-        Refusal::None => 0,
-        Refusal::Root => 0,
-        Refusal::Text(_) => 0,
-        Refusal::Full => 0,
+        Refusal::Clash(p, q) => Detail {
+            first: p.0 as u64,
+            second: q.0 as u64,
+        },
+        Refusal::Text(at) => Detail {
+            first: at as u64,
+            second: 0,
+        },
+        _ => Detail {
+            first: 0,
+            second: 0,
+        },
     }
 }
 
@@ -78,8 +60,18 @@ fn second_detail(f: Refusal) -> u64
 fn refused(f: Refusal, answer: &mut [u64; 4]) -> usize
     ensures { λ r. ⌜ (r ≡ number f) × (now (answer .exit) ≡ four (detail f)) ⌝ }
 {
-    put(answer, first_detail(f), second_detail(f), 0, 0);
+    let d = detail_of(f);
+    put(answer, d.first, d.second, 0, 0);
     f.number()
+}
+
+// A table: prod0 plus one, k, the row count, the state count.
+fn titled(prod0: i32, k: usize, rows: usize, states: usize, answer: &mut [u64; 4]) -> usize
+    ensures { λ r. ⌜ (r ≡ 0) × (now (answer .exit) ≡ code (accepting prod0) ∷ k ∷ rows ∷ states ∷ []) ⌝ }
+{
+    let code = rows::numbers::coded(prod0) as u64;
+    put(answer, code, k as u64, rows as u64, states as u64);
+    0
 }
 
 // A made table: prod0 plus one, k, the row count, the state count.
@@ -92,11 +84,7 @@ pub fn made(said: Making, answer: &mut [u64; 4]) -> usize
             k,
             rows,
             states,
-        } => {
-            let code = rows::numbers::coded(prod0) as u64;
-            put(answer, code, k as u64, rows as u64, states as u64);
-            0
-        }
+        } => titled(prod0, k, rows, states, answer),
         Making::Refused(f) => refused(f, answer),
     }
 }
@@ -135,11 +123,7 @@ pub fn heard(said: Reading, answer: &mut [u64; 4]) -> usize
     ensures { λ r. ⌜ Hands (heard said) of-title r (now (answer .exit)) ⌝ }
 {
     match said {
-        Reading::Read { prod0, k, rows } => {
-            let code = rows::numbers::coded(prod0) as u64;
-            put(answer, code, k as u64, rows as u64, 0);
-            0
-        }
+        Reading::Read { prod0, k, rows } => titled(prod0, k, rows, 0, answer),
         Reading::Refused(f) => refused(f, answer),
     }
 }

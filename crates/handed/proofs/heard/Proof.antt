@@ -1,5 +1,3 @@
-use mathlib.Core.Path.{refl}
-use Rattle.handed.proofs.Hands.{first-is}
 use borrow.Author.Needs.{needs}
 use Rattle.handed.proofs.heard.Statement.{statement}
 use Rattle.handed.proofs.heard.Tie as tie
@@ -7,11 +5,8 @@ use Rattle.handed.proofs.heard.Tie as tie
 enum-known-said : tie.Need-enum-known-said
 enum-known-said c = search needs
 
-coded-requires : tie.Need-coded-requires
-coded-requires c κs = search needs
-
-put-requires : tie.Need-put-requires
-put-requires c κs = search needs
+titled-requires : tie.Need-titled-requires
+titled-requires c κs = search needs
 
 enum-known-said-2 : tie.Need-enum-known-said-2
 enum-known-said-2 c = search needs
@@ -20,11 +15,7 @@ refused-requires : tie.Need-refused-requires
 refused-requires c κs = search needs
 
 returns : tie.Need-returns
-returns c =
-    rw (c .before .before .before .before .said .given .1) (record {
-      says = refl;
-      holds = first-is _ _ _ _ (c .put .ensures) (c .before .before .coded .ensures .is);
-    })
+returns c = rw (c .before .before .before .said .given .1) (record { says = c .titled .ensures .0; holds = c .titled .ensures .1 })
 
 returns-2 : tie.Need-returns-2
 returns-2 c = search needs
@@ -32,11 +23,4 @@ returns-2 c = search needs
 pub heard-spec : {M : Type 1} → statement M
 heard-spec =
     tie.close
-    (tie.spec
-    enum-known-said
-    coded-requires
-    put-requires
-    enum-known-said-2
-    refused-requires
-    returns
-    returns-2)
+    (tie.spec enum-known-said titled-requires enum-known-said-2 refused-requires returns returns-2)
