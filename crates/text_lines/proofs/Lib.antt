@@ -1,9 +1,5 @@
-pub mod Numbers
-pub mod Starts
 pub mod Never
-pub mod Forms
 pub mod Rowed
 pub mod Ended
-pub mod Formed
 pub mod Told
 pub mod Small

@@ -2,15 +2,11 @@
 use Prim.Native.Nat.{ℕ}
 use mathlib.Core.Path.{_≡_}
 use native.Mathlib.Omega.{arith}
-use Rattle.text_lines.specs.declared.pieces.Number.the-variants as number
 use Rattle.text_lines.specs.declared.ends.Line.the-variants as line
 use Rattle.text_lines.specs.declared.reading.RowLine.the-variants as row-line
 use Rattle.text_lines.specs.declared.reading.HeadLine.the-variants as head-line
 
 module _ {P : Type 0} where
-  pub no-number : {v n : ℕ} → number.Bad ≡ number.Is v n → P
-  no-number e = let z : _≡_ {A = ℕ} 0 1 = cc in absurd (omega arith)
-
   pub no-line : {n : ℕ} → line.Open ≡ line.Ended n → P
   no-line e = let z : _≡_ {A = ℕ} 0 1 = cc in absurd (omega arith)
 

@@ -6,14 +6,14 @@ use mathlib.Core.List.{List, [], _∷_}
 use native.Mathlib.Omega.{arith}
 use lib.ListN.{length}
 use Rattle.paper.specs.Words.{bytes}
-use Rattle.text_lines.specs.declared.pieces.Number.the-variants as number
+use Rattle.text_pieces.specs.declared.Number.the-variants as number
 use Rattle.text_lines.specs.declared.reading.RowLine.{RowLine}
 use Rattle.text_lines.specs.declared.reading.RowLine.the-variants as row-line
 use Rattle.text_lines.specs.declared.reading.HeadLine.{HeadLine}
 use Rattle.text_lines.specs.declared.reading.HeadLine.the-variants as head-line
-use Rattle.text_lines.specs.Pieces.{field-at, last-at, ends-at}
+use Rattle.text_pieces.specs.Pieces.{field-at, last-at, ends-at}
 use Rattle.text_lines.specs.Reading.{on-is, row-of, head-of}
-use Rattle.text_lines.proofs.Forms.{field-within, last-within}
+use Rattle.text_pieces.proofs.Forms.{field-within, last-within}
 
 -- the words of lines
 abbrev trans : List ℕ

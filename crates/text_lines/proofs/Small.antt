@@ -9,16 +9,16 @@ use lib.Dec.{ltb}
 use lib.ListN.{length, drop}
 use Rattle.paper.specs.Words.{bytes}
 use Rattle.rows.proofs.Rest.{by-test}
-use Rattle.text_lines.specs.declared.pieces.Number.{Number}
-use Rattle.text_lines.specs.declared.pieces.Number.the-variants as number
+use Rattle.text_pieces.specs.declared.Number.{Number}
+use Rattle.text_pieces.specs.declared.Number.the-variants as number
 use Rattle.text_lines.specs.declared.reading.RowLine.{RowLine}
 use Rattle.text_lines.specs.declared.reading.RowLine.the-variants as row-line
 use Rattle.text_lines.specs.declared.reading.HeadLine.{HeadLine}
 use Rattle.text_lines.specs.declared.reading.HeadLine.the-variants as head-line
-use Rattle.text_lines.specs.Pieces.{field-at, last-at, ends-at}
+use Rattle.text_pieces.specs.Pieces.{field-at, last-at, ends-at}
 use Rattle.text_lines.specs.Reading.{on-is, row-of, head-of, line-end, row-from, head-from, front}
 use Rattle.text_lines.proofs.Never.{no-row, no-head}
-use Rattle.text_lines.proofs.Forms.{field-within, last-within}
+use Rattle.text_pieces.proofs.Forms.{field-within, last-within}
 
 -- what holds of a number read, and if there is none, holds of what follows
 on-each : {A : Type 0} (P : A → Type 0) (bad : A) (next : ℕ → ℕ → A) (x : Number) → P bad →

@@ -13,16 +13,16 @@ use Rattle.paper.specs.Rows.{signed}
 use Rattle.paper.specs.Text.{Piece, word, count, production, read, and-then, row-form, head-form}
 use Rattle.rows.specs.Places.{uncoded}
 use Rattle.rows.proofs.Rest.{by-test}
-use Rattle.text_lines.specs.declared.pieces.Number.{Number}
-use Rattle.text_lines.specs.declared.pieces.Number.the-variants as number
+use Rattle.text_pieces.specs.declared.Number.{Number}
+use Rattle.text_pieces.specs.declared.Number.the-variants as number
 use Rattle.text_lines.specs.declared.reading.RowLine.{RowLine}
 use Rattle.text_lines.specs.declared.reading.RowLine.the-variants as row-line
 use Rattle.text_lines.specs.declared.reading.HeadLine.{HeadLine}
 use Rattle.text_lines.specs.declared.reading.HeadLine.the-variants as head-line
-use Rattle.text_lines.specs.Pieces.{field-at, last-at, ends-at}
+use Rattle.text_pieces.specs.Pieces.{field-at, last-at, ends-at}
 use Rattle.text_lines.specs.Reading.{on-is, row-of, head-of}
-use Rattle.text_lines.proofs.Forms.{field-within, last-within}
-use Rattle.text_lines.proofs.Formed.{read-field, read-no-field, read-last, read-no-last, read-end, read-no-end}
+use Rattle.text_pieces.proofs.Forms.{field-within, last-within}
+use Rattle.text_pieces.proofs.Formed.{read-field, read-no-field, read-last, read-no-last, read-end, read-no-end}
 
 -- the numbers of a line's answer
 abbrev pub row-told : RowLine → Option (List ℤ)

@@ -5,15 +5,15 @@ use mathlib.Core.List.{List, [], _∷_}
 use lib.ListN.{length, drop}
 use lib.Dec.{eqb, ltb}
 use Rattle.paper.specs.Words.{bytes}
-use Rattle.text_lines.specs.declared.pieces.Number.{Number}
-use Rattle.text_lines.specs.declared.pieces.Number.the-variants as number
+use Rattle.text_pieces.specs.declared.Number.{Number}
+use Rattle.text_pieces.specs.declared.Number.the-variants as number
 use Rattle.text_lines.specs.declared.ends.Line.{Line}
 use Rattle.text_lines.specs.declared.ends.Line.the-variants.{Ended, Open}
 use Rattle.text_lines.specs.declared.reading.RowLine.{RowLine}
 use Rattle.text_lines.specs.declared.reading.RowLine.the-variants as row-line
 use Rattle.text_lines.specs.declared.reading.HeadLine.{HeadLine}
 use Rattle.text_lines.specs.declared.reading.HeadLine.the-variants as head-line
-use Rattle.text_lines.specs.Pieces.{field-at, last-at, ends-at}
+use Rattle.text_pieces.specs.Pieces.{field-at, last-at, ends-at}
 
 -- What follows a number that was read.
 abbrev pub on-is : {A : Type 0} → Number → A → (ℕ → ℕ → A) → A

@@ -1,5 +1,4 @@
-// Text in: the lines of a text, and the words and numbers of a line.
+// Text in: the lines of a text.
 mod ends;
-mod pieces;
 mod reader;
 pub mod reading;

@@ -1,8 +1,7 @@
 // Text in: lines, each at a place of the text.
 use crate::ends::Line;
-use crate::pieces;
-use crate::pieces::Number;
 use crate::reader;
+use text_pieces::Number;
 ghost use mathlib.Core.Path.{_≡_};
 ghost use Prim.Native.Nat.{_+_};
 ghost use Rattle.text_lines.specs.Reading.{row-of, head-of, row-from, head-from};
@@ -23,19 +22,19 @@ pub enum HeadLine {
 fn row_of(line: &[u8], next: usize) -> RowLine
     ensures { λ r. ⌜ r ≡ row-of (now (line .entry)) next ⌝ }
 {
-    let Number::Is(from, a) = pieces::field_at(line, 0, b"Trans(") else {
+    let Number::Is(from, a) = text_pieces::field_at(line, 0, b"Trans(") else {
         return RowLine::Bad;
     };
-    let Number::Is(on, b) = pieces::field_at(line, a, b", ") else {
+    let Number::Is(on, b) = text_pieces::field_at(line, a, b", ") else {
         return RowLine::Bad;
     };
-    let Number::Is(to, c) = pieces::field_at(line, b, b", ") else {
+    let Number::Is(to, c) = text_pieces::field_at(line, b, b", ") else {
         return RowLine::Bad;
     };
-    let Number::Is(code, d) = pieces::last_at(line, c, b", ") else {
+    let Number::Is(code, d) = text_pieces::last_at(line, c, b", ") else {
         return RowLine::Bad;
     };
-    if !pieces::ends_at(line, d, b"),") {
+    if !text_pieces::ends_at(line, d, b"),") {
         return RowLine::Bad;
     }
     RowLine::Row(from, on, to, code, next)
@@ -45,13 +44,13 @@ fn row_of(line: &[u8], next: usize) -> RowLine
 fn head_of(line: &[u8], next: usize) -> HeadLine
     ensures { λ r. ⌜ r ≡ head-of (now (line .entry)) next ⌝ }
 {
-    let Number::Is(code, a) = pieces::last_at(line, 0, b"Dfa(") else {
+    let Number::Is(code, a) = text_pieces::last_at(line, 0, b"Dfa(") else {
         return HeadLine::Bad;
     };
-    let Number::Is(k, b) = pieces::field_at(line, a, b", ") else {
+    let Number::Is(k, b) = text_pieces::field_at(line, a, b", ") else {
         return HeadLine::Bad;
     };
-    if !pieces::ends_at(line, b, b")") {
+    if !text_pieces::ends_at(line, b, b")") {
         return HeadLine::Bad;
     }
     HeadLine::Head(code, k, next)

@@ -12,7 +12,7 @@ use lib.Seq.{getD-take}
 use Rattle.paper.specs.Text.{digits, is-digit, digit-count, value, in-form}
 use Rattle.rows.proofs.Rest.{by-test, both}
 use Rattle.text_out.proofs.Digits.{digits-less, digits-more, width-less, width-most}
-use Rattle.text_lines.proofs.Numbers.{digit-yes, digit-of}
+use Rattle.text_pieces.proofs.Numbers.{digit-yes, digit-of}
 
 -- the number of digits, after a number that stands before them
 abbrev pub num : ℕ → List ℕ → ℕ

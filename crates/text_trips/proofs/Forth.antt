@@ -40,7 +40,7 @@ use Rattle.laws.proofs.Every.{neither}
 use Rattle.rows.specs.Places.{code}
 use Rattle.rows.proofs.Rest.{both, length-rows}
 use Rattle.rows.proofs.Fits.{Fit, fit}
-use Rattle.text_lines.proofs.Numbers.{digit-of}
+use Rattle.text_pieces.proofs.Numbers.{digit-of}
 use Rattle.text_trips.proofs.Decimal.{Digits, are-digits}
 use Rattle.text_laws.proofs.Kept.{row-kept}
 use Rattle.text_out.proofs.Out.{Ranged, in-range, in-slice}

@@ -28,8 +28,8 @@ use Rattle.paper.specs.Text.{
   head-form,
 }
 use Rattle.rows.specs.Places.{code}
-use Rattle.text_lines.proofs.Numbers.{digit-of}
-use Rattle.text_lines.proofs.Formed.{read-after, read-signed}
+use Rattle.text_pieces.proofs.Numbers.{digit-of}
+use Rattle.text_pieces.proofs.Formed.{read-after, read-signed}
 use Rattle.text_trips.proofs.Decimal.{Digits, are-digits, own-first, written}
 
 past-own : (w bs : List ℕ) → past w (w ++ bs) ≡ some bs

@@ -27,7 +27,7 @@ use Rattle.paper.specs.Text.{
 }
 use Rattle.rows.proofs.Rest.{by-test}
 use Rattle.text_laws.proofs.Never.{none-some}
-use Rattle.text_lines.proofs.Formed.{read-after, read-signed}
+use Rattle.text_pieces.proofs.Formed.{read-after, read-signed}
 use Rattle.text_trips.proofs.Decimal.{formed-digits}
 
 -- a word and what follows it

@@ -1,10 +1,10 @@
--- `text_lines::pieces::production_at` meets its contract. -1, or a number. Assumes nothing.
+-- `text_pieces::production_at` meets its contract. -1, or a number. Assumes nothing.
 use mathlib.Core.Path.{sym, _∙_}
 use native.Mathlib.Omega.{arith}
 use borrow.Author.Needs.{needs}
-use Rattle.text_lines.proofs.Forms.{production-none, production-bad, production-some, number-within}
-use Rattle.text_lines.proofs.pieces.production_at.Statement.{statement}
-use Rattle.text_lines.proofs.pieces.production_at.Tie as tie
+use Rattle.text_pieces.proofs.Forms.{production-none, production-bad, production-some, number-within}
+use Rattle.text_pieces.proofs.production_at.Statement.{statement}
+use Rattle.text_pieces.proofs.production_at.Tie as tie
 
 slice-aggregate-word-at : tie.Need-slice-aggregate-word-at
 slice-aggregate-word-at c = search needs

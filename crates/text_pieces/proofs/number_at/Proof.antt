@@ -1,10 +1,10 @@
--- `text_lines::pieces::number_at` meets its contract. By the tests of the form one after another. Assumes nothing.
+-- `text_pieces::number_at` meets its contract. By the tests of the form one after another. Assumes nothing.
 use mathlib.Core.Logic.{⊎-elim}
 use native.Mathlib.Omega.{arith}
 use borrow.Author.Needs.{needs}
-use Rattle.text_lines.proofs.Forms.{number-none, number-long, number-zero, number-one, number-more}
-use Rattle.text_lines.proofs.pieces.number_at.Statement.{statement}
-use Rattle.text_lines.proofs.pieces.number_at.Tie as tie
+use Rattle.text_pieces.proofs.Forms.{number-none, number-long, number-zero, number-one, number-more}
+use Rattle.text_pieces.proofs.number_at.Statement.{statement}
+use Rattle.text_pieces.proofs.number_at.Tie as tie
 
 digit-count-requires : tie.Need-digit-count-requires
 digit-count-requires c κs = search needs

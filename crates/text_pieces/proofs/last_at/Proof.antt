@@ -1,11 +1,11 @@
--- `text_lines::pieces::last_at` meets its contract. A word, then a production. Assumes nothing.
+-- `text_pieces::last_at` meets its contract. A word, then a production. Assumes nothing.
 use mathlib.Core.Path.{sym, _∙_}
 use borrow.Author.Tests.{not-true, not-false}
 use borrow.Author.Needs.{needs}
-use Rattle.text_lines.proofs.Starts.{starts-within}
-use Rattle.text_lines.proofs.Forms.{last-not, last-so}
-use Rattle.text_lines.proofs.pieces.last_at.Statement.{statement}
-use Rattle.text_lines.proofs.pieces.last_at.Tie as tie
+use Rattle.text_pieces.proofs.Starts.{starts-within}
+use Rattle.text_pieces.proofs.Forms.{last-not, last-so}
+use Rattle.text_pieces.proofs.last_at.Statement.{statement}
+use Rattle.text_pieces.proofs.last_at.Tie as tie
 
 word-at-requires : tie.Need-word-at-requires
 word-at-requires c κs = search needs

@@ -1,4 +1,4 @@
--- `text_lines::pieces::value` meets its contract. The loop's invariant: the digits left, after the number so far, make the
+-- `text_pieces::value` meets its contract. The loop's invariant: the digits left, after the number so far, make the
 -- number asked for. Assumes nothing.
 use Prim.Native.Nat.{suc, _+_, _-_, _≤_}
 use mathlib.Core.Path.{_≡_, sym, _∙_}
@@ -6,9 +6,9 @@ use native.Mathlib.Omega.{arith}
 use native.Mathlib.Nat.{add-zero}
 use lib.ListN.{drop}
 use Rattle.paper.specs.Text.{digit-count, value}
-use Rattle.text_lines.proofs.Numbers.{value-small, digit-there, digits-left, value-next, value-grows}
-use Rattle.text_lines.proofs.pieces.value.Statement.{statement}
-use Rattle.text_lines.proofs.pieces.value.Tie as tie
+use Rattle.text_pieces.proofs.Numbers.{value-small, digit-there, digits-left, value-next, value-grows}
+use Rattle.text_pieces.proofs.value.Statement.{statement}
+use Rattle.text_pieces.proofs.value.Tie as tie
 
 abbrev Inv-loop : tie.InvT-loop
 Inv-loop line at count n₀ i₀ n i =

@@ -16,11 +16,11 @@ use Rattle.paper.specs.Rows.{signed}
 use Rattle.paper.specs.Text.{Piece, word, count, production, past, in-form, value, digit-count, read, and-then}
 use Rattle.rows.specs.Places.{uncoded}
 use Rattle.rows.proofs.Rest.{by-test, both}
-use Rattle.text_lines.specs.declared.pieces.Number.{Number}
-use Rattle.text_lines.specs.declared.pieces.Number.the-variants.{Is, Bad}
-use Rattle.text_lines.specs.Pieces.{starts, number-at, as-code, production-at, field-at, last-at, ends-at}
-use Rattle.text_lines.proofs.Never.{no-number}
-use Rattle.text_lines.proofs.Starts.{past-starts, starts-within}
+use Rattle.text_pieces.specs.declared.Number.{Number}
+use Rattle.text_pieces.specs.declared.Number.the-variants.{Is, Bad}
+use Rattle.text_pieces.specs.Pieces.{starts, number-at, as-code, production-at, field-at, last-at, ends-at}
+use Rattle.text_pieces.proofs.Never.{no-number}
+use Rattle.text_pieces.proofs.Starts.{past-starts, starts-within}
 
 -- the rest of a form after a word
 abbrev pub after : List Piece → Option (List ℕ) → Option (List ℤ)

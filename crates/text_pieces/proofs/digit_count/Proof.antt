@@ -1,4 +1,4 @@
--- `text_lines::pieces::digit_count` meets its contract. The loop's invariant: the digits passed and those from there on
+-- `text_pieces::digit_count` meets its contract. The loop's invariant: the digits passed and those from there on
 -- are all of them. Assumes nothing.
 use Prim.Native.Nat.{suc, _+_, _-_, _≤_}
 use mathlib.Core.Path.{_≡_}
@@ -6,9 +6,9 @@ use native.Mathlib.Omega.{arith}
 use native.Mathlib.Nat.{add-zero}
 use lib.ListN.{length, drop}
 use Rattle.paper.specs.Text.{digit-count}
-use Rattle.text_lines.proofs.Numbers.{digits-end, digits-next, digits-low, digits-high}
-use Rattle.text_lines.proofs.pieces.digit_count.Statement.{statement}
-use Rattle.text_lines.proofs.pieces.digit_count.Tie as tie
+use Rattle.text_pieces.proofs.Numbers.{digits-end, digits-next, digits-low, digits-high}
+use Rattle.text_pieces.proofs.digit_count.Statement.{statement}
+use Rattle.text_pieces.proofs.digit_count.Tie as tie
 
 abbrev Inv-loop : tie.InvT-loop
 Inv-loop line at n₀ n =

@@ -1,10 +1,10 @@
--- `text_lines::pieces::ends_at` meets its contract. A word, then the end. Assumes nothing.
+-- `text_pieces::ends_at` meets its contract. A word, then the end. Assumes nothing.
 use mathlib.Core.Path.{sym, _∙_}
 use borrow.Author.Tests.{not-true, not-false}
 use borrow.Author.Needs.{needs}
-use Rattle.text_lines.proofs.Forms.{ends-not, ends-so}
-use Rattle.text_lines.proofs.pieces.ends_at.Statement.{statement}
-use Rattle.text_lines.proofs.pieces.ends_at.Tie as tie
+use Rattle.text_pieces.proofs.Forms.{ends-not, ends-so}
+use Rattle.text_pieces.proofs.ends_at.Statement.{statement}
+use Rattle.text_pieces.proofs.ends_at.Tie as tie
 
 word-at-requires : tie.Need-word-at-requires
 word-at-requires c κs = search needs

@@ -11,7 +11,7 @@ use lib.ListN.{length, getD, drop, drop-of-length-le, length-drop}
 use lib.Seq.{drop-cons}
 use Rattle.paper.specs.Text.{past}
 use Rattle.rows.proofs.Rest.{by-test}
-use Rattle.text_lines.specs.Pieces.{is-some, starts}
+use Rattle.text_pieces.specs.Pieces.{is-some, starts}
 
 -- what is left of a word at i, against what is left of a line at k
 module _ (w l : List ℕ) (i k : ℕ) where

@@ -1,11 +1,11 @@
--- `text_lines::pieces::field_at` meets its contract. A word, then a number. Assumes nothing.
+-- `text_pieces::field_at` meets its contract. A word, then a number. Assumes nothing.
 use mathlib.Core.Path.{sym, _∙_}
 use borrow.Author.Tests.{not-true, not-false}
 use borrow.Author.Needs.{needs}
-use Rattle.text_lines.proofs.Starts.{starts-within}
-use Rattle.text_lines.proofs.Forms.{field-not, field-so}
-use Rattle.text_lines.proofs.pieces.field_at.Statement.{statement}
-use Rattle.text_lines.proofs.pieces.field_at.Tie as tie
+use Rattle.text_pieces.proofs.Starts.{starts-within}
+use Rattle.text_pieces.proofs.Forms.{field-not, field-so}
+use Rattle.text_pieces.proofs.field_at.Statement.{statement}
+use Rattle.text_pieces.proofs.field_at.Tie as tie
 
 word-at-requires : tie.Need-word-at-requires
 word-at-requires c κs = search needs

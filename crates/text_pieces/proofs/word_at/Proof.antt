@@ -1,4 +1,4 @@
--- `text_lines::pieces::word_at` meets its contract. The loop's invariant: what is left of the word is to stand at what is
+-- `text_pieces::word_at` meets its contract. The loop's invariant: what is left of the word is to stand at what is
 -- left of the line. Assumes nothing.
 use Prim.Native.Nat.{suc, _+_, _-_, _≤_}
 use mathlib.Core.Path.{_≡_, _∙_}
@@ -7,9 +7,9 @@ use native.Mathlib.Nat.{add-zero}
 use native.Mathlib.Numerals.{add-one}
 use lib.ListN.{length, drop}
 use Rattle.paper.specs.Text.{past}
-use Rattle.text_lines.proofs.Starts.{word-all, word-short, word-next, word-differs, starts-not, starts-so}
-use Rattle.text_lines.proofs.pieces.word_at.Statement.{statement}
-use Rattle.text_lines.proofs.pieces.word_at.Tie as tie
+use Rattle.text_pieces.proofs.Starts.{word-all, word-short, word-next, word-differs, starts-not, starts-so}
+use Rattle.text_pieces.proofs.word_at.Statement.{statement}
+use Rattle.text_pieces.proofs.word_at.Tie as tie
 
 abbrev Inv-loop : tie.InvT-loop
 Inv-loop line at word i₀ i =

@@ -7,8 +7,8 @@ use lib.ListN.{length, drop}
 use lib.Dec.{eqb}
 use Rattle.paper.specs.Words.{bytes}
 use Rattle.paper.specs.Text.{past, in-form, value, digit-count}
-use Rattle.text_lines.specs.declared.pieces.Number.{Number}
-use Rattle.text_lines.specs.declared.pieces.Number.the-variants.{Is, Bad}
+use Rattle.text_pieces.specs.declared.Number.{Number}
+use Rattle.text_pieces.specs.declared.Number.the-variants.{Is, Bad}
 
 -- Whether there is one.
 abbrev pub is-some : {A : Type 0} → Option A → Bool

@@ -13,12 +13,12 @@ use lib.Seq.{getD-drop}
 use Rattle.paper.specs.Words.{bytes}
 use Rattle.paper.specs.Text.{is-digit, digit-count, value, in-form}
 use Rattle.rows.proofs.Rest.{by-test, both}
-use Rattle.text_lines.specs.declared.pieces.Number.{Number}
-use Rattle.text_lines.specs.declared.pieces.Number.the-variants.{Is, Bad}
-use Rattle.text_lines.specs.Pieces.{starts, number-at, as-code, production-at, field-at, last-at, ends-at}
-use Rattle.text_lines.proofs.Never.{no-number}
-use Rattle.text_lines.proofs.Numbers.{value-small}
-use Rattle.text_lines.proofs.Starts.{starts-within}
+use Rattle.text_pieces.specs.declared.Number.{Number}
+use Rattle.text_pieces.specs.declared.Number.the-variants.{Is, Bad}
+use Rattle.text_pieces.specs.Pieces.{starts, number-at, as-code, production-at, field-at, last-at, ends-at}
+use Rattle.text_pieces.proofs.Never.{no-number}
+use Rattle.text_pieces.proofs.Numbers.{value-small}
+use Rattle.text_pieces.proofs.Starts.{starts-within}
 
 pub few-digits : (bs : List ℕ) → digit-count bs ≤ length bs
 unfolding digit-count

@@ -3,7 +3,7 @@ ghost use mathlib.Core.Path.{_≡_};
 ghost use Prim.Native.Nat.{_+_, _<_, _≤_};
 ghost use lib.ListN.{length, drop};
 ghost use Rattle.paper.specs.Text.{digit-count, value};
-ghost use Rattle.text_lines.specs.Pieces.{starts, number-at, production-at, field-at, last-at, ends-at};
+ghost use Rattle.text_pieces.specs.Pieces.{starts, number-at, production-at, field-at, last-at, ends-at};
 
 // A number and the place after it, or no number in form.
 pub enum Number {
