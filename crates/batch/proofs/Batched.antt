@@ -15,11 +15,11 @@ use Rattle.paper.specs.Answers.{Ruling, accept, refuse, number, detail, Chosen,
 use Rattle.paper.specs.Checks.{first, row-slice, plain}
 use Rattle.paper.specs.Predict.{predict}
 use Rattle.laws.proofs.Writing as writing
-use Rattle.rows.specs.Verdicts.{Judges, follow}
-use Rattle.rows.specs.declared.verdict.Verdict.{Verdict}
-use Rattle.rows.specs.declared.verdict.Verdict.the-variants as verdict
-use Rattle.rows.specs.declared.verdict.Verdict.the-variants.{Pass}
-use Rattle.rows.proofs.Judged.{judged}
+use Rattle.row_checks.specs.Verdicts.{Judges, follow}
+use Rattle.row_checks.specs.declared.Verdict.{Verdict}
+use Rattle.row_checks.specs.declared.Verdict.the-variants as verdict
+use Rattle.row_checks.specs.declared.Verdict.the-variants.{Pass}
+use Rattle.row_checks.proofs.Judged.{judged}
 use Rattle.predict.specs.Checked.{checked}
 use Rattle.predict.proofs.Parts.{after-checks}
 use Rattle.paper.specs.Batch.{each-window, window-lengths, batch}

@@ -3,7 +3,7 @@ use paper::Mode;
 use paper::Prediction;
 use paper::Refusal;
 use paper::Writing;
-use rows::verdict::Verdict;
+use row_checks::Verdict;
 ghost use mathlib.Core.Path.{_≡_};
 ghost use mathlib.Core.Bool.{not};
 ghost use mathlib.Core.List.{_++_};
@@ -119,13 +119,13 @@ pub fn batch(
     ensures { λ r. ⌜ Writes (batch mode prod0 k (now (rows .entry)) stream count (now (tokens .entry))
         (length (now (answers .entry)))) r (now (answers .entry)) (now (answers .exit)) ⌝ }
 {
-    if rows::checks::row_slice(rows) {
+    if row_checks::row_slice(rows) {
         return Writing::Refused(Refusal::Length);
     }
     if lengths(k, count, tokens.len(), answers.len()) {
         return Writing::Refused(Refusal::Length);
     }
-    let verdict = rows::verdict::plain(prod0, k, rows);
+    let verdict = row_checks::plain(prod0, k, rows);
     match verdict {
         Verdict::Refused(f) => Writing::Refused(f),
         Verdict::Pass => {

@@ -9,10 +9,9 @@ use lib.Dec.{eqb}
 use lib.ListN.{length, getD, set, replicate, length-set, length-replicate, getD-replicate}
 use lib.Seq.{getD-set-same, getD-set-other}
 use lib.IntN.{ℤ}
-use Rattle.paper.specs.Checks.{row-fits}
 use Rattle.rows.specs.Places.{row-at}
-use Rattle.rows.proofs.Rest.{by-test, every-at}
-use Rattle.rows.proofs.Fits.{Fit, fit}
+use Rattle.rows.proofs.Rest.{by-test}
+use Rattle.rows.proofs.Fits.{Fit, fits-at}
 use Rattle.counts.specs.Arrays.{Fitting, Holds, Clear}
 
 pub clear : Clear (replicate 1024 0)
@@ -38,4 +37,4 @@ holds-as e h = record { sized = h .sized; held = λ s m. h .held s m ∙ sym (e 
 
 -- a row of rows within their bounds
 pub bound : {ns : List ℤ} → Fitting ns → (i : ℕ) → i * 4 + 3 < length ns → Fit (row-at ns i)
-bound {ns} b i h = fit (row-at ns i) (every-at row-fits ns i (b .fits) h)
+bound {ns} b i h = fits-at ns (b .fits) i (omega arith)

@@ -27,10 +27,10 @@ use denote.Ref.{RefT}
 use Rattle.explain.specs.declared.Part.{Part}
 use Rattle.explain.specs.Stopped.{Lies}
 use Rattle.search.specs.Search.{Leaves}
-use Rattle.rows.specs.Verdicts.{Judges, follow}
-use Rattle.rows.specs.declared.verdict.Verdict.{Verdict}
-use Rattle.rows.specs.declared.verdict.Verdict.the-variants.{Pass, Refused}
-use Rattle.rows.proofs.Judged.{judged}
+use Rattle.row_checks.specs.Verdicts.{Judges, follow}
+use Rattle.row_checks.specs.declared.Verdict.{Verdict}
+use Rattle.row_checks.specs.declared.Verdict.the-variants.{Pass, Refused}
+use Rattle.row_checks.proofs.Judged.{judged}
 
 module _ (ns : List ℤ) where
   -- the empty part at the end

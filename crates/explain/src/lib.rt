@@ -2,8 +2,8 @@
 use paper::Explanation;
 use paper::Refusal;
 use paper::State;
+use row_checks::Verdict;
 use rows::numbers;
-use rows::verdict::Verdict;
 use search::Found;
 ghost use mathlib.Core.Path.{_≡_};
 ghost use mathlib.Core.Bool.{false};
@@ -23,7 +23,7 @@ pub struct Stop {
 }
 
 // The walk over all tokens to the first without a row, in rows that passed 1 to 3.
-pub fn walked(rows: &[i32], tokens: &[u16]) -> Stop
+fn walked(rows: &[i32], tokens: &[u16]) -> Stop
     requires { ⌜ Passed (now rows) ⌝ }
     ensures { λ r. ⌜ stopped r ≡ stop (rows-in (now (rows .entry))) 0 0 (now (tokens .entry)) ⌝ }
 {
@@ -58,10 +58,10 @@ fn wide(x: u16) -> usize
 pub fn matched(prod0: i32, k: usize, rows: &[i32], tokens: &[u16]) -> Explanation
     ensures { λ r. ⌜ explained r ≡ matched-count prod0 k (now (rows .entry)) (now (tokens .entry)) ⌝ }
 {
-    if rows::checks::row_slice(rows) {
+    if row_checks::row_slice(rows) {
         return Explanation::Refused(Refusal::Length);
     }
-    let verdict = rows::verdict::plain(prod0, k, rows);
+    let verdict = row_checks::plain(prod0, k, rows);
     match verdict {
         Verdict::Refused(f) => Explanation::Refused(f),
         Verdict::Pass => {
@@ -102,10 +102,10 @@ pub fn place(prod0: i32, k: usize, rows: &[i32], tokens: &[u16]) -> Part
     ensures { λ r. ⌜ Lies (now (rows .entry)) (stretch prod0 k (now (rows .entry)) (now (tokens .entry))) r ⌝ }
 {
     let n = rows.len();
-    if rows::checks::row_slice(rows) {
+    if row_checks::row_slice(rows) {
         return Part { start: n, count: 0 };
     }
-    let verdict = rows::verdict::plain(prod0, k, rows);
+    let verdict = row_checks::plain(prod0, k, rows);
     let Verdict::Pass = verdict else {
         return Part { start: n, count: 0 };
     };

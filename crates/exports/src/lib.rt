@@ -1,5 +1,5 @@
 // The calls for Rust and C: numbers and slices in, the refusal's number out (0: accepted), values in `answer`.
-use rows::verdict::Verdict;
+use row_checks::Verdict;
 ghost use mathlib.Core.Path.{_≡_};
 ghost use lib.ListN.{length};
 ghost use Rattle.paper.specs.Build.{build};
@@ -92,10 +92,10 @@ pub extern "C" fn lookahead_intake(
 pub extern "C" fn lookahead_check(prod0: i32, k: usize, rows: &[i32]) -> usize
     ensures { λ r. ⌜ r ≡ returned (table-checked prod0 k (now (rows .entry))) ⌝ }
 {
-    if rows::checks::row_slice(rows) {
+    if row_checks::row_slice(rows) {
         return 1;
     }
-    let verdict = rows::verdict::plain(prod0, k, rows);
+    let verdict = row_checks::plain(prod0, k, rows);
     match verdict {
         Verdict::Refused(f) => f.number(),
         Verdict::Pass => 0,

@@ -11,9 +11,9 @@ use Rattle.paper.specs.Rows.{accepting, rows-in, table}
 use Rattle.paper.specs.Answers.{Ruling, refuse, Chosen}
 use Rattle.paper.specs.Checks.{row-slice, plain}
 use Rattle.paper.specs.Predict.{Walk, start, walk, answer, chosen, predict-table, predict}
-use Rattle.rows.specs.Verdicts.{Judges, follow}
-use Rattle.rows.specs.declared.verdict.Verdict.{Verdict}
-use Rattle.rows.proofs.Judged.{judged}
+use Rattle.row_checks.specs.Verdicts.{Judges, follow}
+use Rattle.row_checks.specs.declared.Verdict.{Verdict}
+use Rattle.row_checks.proofs.Judged.{judged}
 use Rattle.predict.specs.Checked.{checked}
 
 module _ (mode : Mode) (p : ℤ) (k : ℕ) (ns : List ℤ) (stream : ℕ) (ts : List ℕ) where

@@ -9,8 +9,8 @@ use Rattle.paper.specs.Checks.{first, plain}
 use Rattle.paper.specs.declared.Mode.{Mode}
 use Rattle.paper.specs.Answers.{Ruling, Chosen}
 use Rattle.paper.specs.Predict.{chosen}
-use Rattle.rows.specs.Verdicts.{Judges}
-use Rattle.rows.specs.declared.verdict.Verdict.the-variants.{Pass}
+use Rattle.row_checks.specs.Verdicts.{Judges}
+use Rattle.row_checks.specs.declared.Verdict.the-variants.{Pass}
 
 -- A table that passed 2 and 3.
 pub record Sound (p : ℤ) (k : ℕ) (ns : List ℤ) : Type 0 where

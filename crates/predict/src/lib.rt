@@ -3,8 +3,8 @@ use paper::Mode;
 use paper::Prediction;
 use paper::Production;
 use paper::Refusal;
+use row_checks::Verdict;
 use rows::numbers;
-use rows::verdict::Verdict;
 use walk::Reached;
 use walk::Walk;
 ghost use mathlib.Core.Path.{_≡_};
@@ -46,7 +46,7 @@ fn fallback(mode: Mode, prod0: i32, entered: usize) -> Prediction
 }
 
 // What a walk answers.
-pub fn answer(mode: Mode, prod0: i32, w: Walk) -> Prediction
+fn answer(mode: Mode, prod0: i32, w: Walk) -> Prediction
     requires { ⌜ code (accepting prod0) ≤ 65536 ⌝ }
     ensures { λ r. ⌜ predicted r ≡ answer mode (accepting prod0) (w .entered) (reached (w .last)) ⌝ }
 {
@@ -102,10 +102,10 @@ pub fn predict(
 ) -> Prediction
     ensures { λ r. ⌜ predicted r ≡ predict mode prod0 k (now (rows .entry)) stream (now (tokens .entry)) ⌝ }
 {
-    if rows::checks::row_slice(rows) {
+    if row_checks::row_slice(rows) {
         return Prediction::Refused(Refusal::Length);
     }
-    let verdict = rows::verdict::plain(prod0, k, rows);
+    let verdict = row_checks::plain(prod0, k, rows);
     match verdict {
         Verdict::Refused(f) => Prediction::Refused(f),
         Verdict::Pass => predict_checked(mode, prod0, k, rows, stream, tokens),

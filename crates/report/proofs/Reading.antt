@@ -15,7 +15,7 @@ use Rattle.paper.specs.Answers.{refuse, Reads, number, detail}
 use Rattle.paper.specs.Text.{text-in}
 use Rattle.laws.proofs.RowNumbers.{table-numbers, slice-numbers}
 use Rattle.rows.specs.Places.{code}
-use Rattle.rows.proofs.Judged.{bounded}
+use Rattle.row_checks.proofs.Judged.{bounded}
 use Rattle.text_in.proofs.Filled.{stored}
 use Rattle.text_trips.proofs.Back.{passed}
 use Rattle.text_trips.proofs.Trips.{of-rows}

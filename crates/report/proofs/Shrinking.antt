@@ -17,7 +17,7 @@ use Rattle.paper.specs.Checks.{little-room, range, order, shape, loose, split}
 use Rattle.paper.specs.Shrink.{shrunk, shrink-table, shrink}
 use Rattle.paper.specs.Tabrep.{lines-of}
 use Rattle.rows.proofs.Rest.{length-rows}
-use Rattle.rows.proofs.Judged.{rows-fit}
+use Rattle.row_checks.proofs.Judged.{rows-fit}
 use Rattle.counts.specs.Arrays.{Fitting}
 use Rattle.merging.proofs.States.{states-length}
 use Rattle.merging.proofs.Promises.{shrunk-rows-le, shrunk-states-le}

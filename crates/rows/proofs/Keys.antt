@@ -12,8 +12,8 @@ use lib.IntN.{ℤ}
 use Rattle.paper.specs.Rows.{Row, rows-in}
 use Rattle.paper.specs.Checks.{every, row-fits, before, rising}
 use Rattle.rows.specs.Places.{row-at, rest, key}
-use Rattle.rows.proofs.Rest.{by-test, by-place, rest-cons, rest-end, every-at}
-use Rattle.rows.proofs.Fits.{fit}
+use Rattle.rows.proofs.Rest.{by-test, by-place, rest-cons, rest-end}
+use Rattle.rows.proofs.Fits.{fits-at}
 
 -- three cases of two numbers
 pub compared : {X : Type 0} (a b : ℕ) → (a < b → X) → (a ≡ b → X) → (b < a → X) → X
@@ -69,11 +69,9 @@ module _ (ns : List ℤ) (i : ℕ) where
     pub rising-key : rising (rest ns i) ≡ (ltb (key (row-at ns i)) (key (row-at ns (i + 1))) && rising (rest ns
         (i + 1)))
     rising-key =
-        let a = fit (row-at ns i) (every-at row-fits ns i fits (omega arith)) in
-        let b = fit (row-at ns (i + 1)) (every-at row-fits ns (i + 1) fits (omega arith)) in
         rising-cons h
         ∙ ap (λ (t : Bool). t && rising (rest ns (i + 1))) (before-key (row-at ns i) (row-at ns (i + 1))
-        (a .terminal) (b .terminal))
+        (fits-at ns fits i (omega arith) .terminal) (fits-at ns fits (i + 1) (omega arith) .terminal))
 
     -- a row below the next, and one that is not
     pub rising-next : key (row-at ns i) < key (row-at ns (i + 1)) → rising (rest ns i) ≡ rising (rest ns (i + 1))

@@ -5,4 +5,3 @@ pub mod Fits
 pub mod Keys
 pub mod Passing
 pub mod Counted
-pub mod Judged

@@ -13,10 +13,10 @@ use Rattle.paper.specs.Rows.{Table, table}
 use Rattle.paper.specs.Answers.{Ruling, accept, refuse}
 use Rattle.paper.specs.Checks.{first, shape, loose, split, no-tree}
 use Rattle.rows.specs.Places.{bare}
-use Rattle.rows.specs.Verdicts.{follow, Judges}
-use Rattle.rows.specs.declared.verdict.Verdict.{Verdict}
-use Rattle.rows.specs.declared.verdict.Verdict.the-variants.{Pass, Refused}
-use Rattle.rows.proofs.Judged.{judged}
+use Rattle.row_checks.specs.Verdicts.{follow, Judges}
+use Rattle.row_checks.specs.declared.Verdict.{Verdict}
+use Rattle.row_checks.specs.declared.Verdict.the-variants.{Pass, Refused}
+use Rattle.row_checks.proofs.Judged.{judged}
 use Rattle.ruled.specs.Beyond.{beyond}
 
 first-append : {A : Type 0} (cs ds : List (Bool × ℕ)) (r : Ruling A) → first (cs ++ ds) r ≡ first cs (first ds r)

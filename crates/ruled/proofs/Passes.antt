@@ -9,9 +9,9 @@ use lib.IntN.{ℤ}
 use Rattle.paper.specs.Rows.{Table, table}
 use Rattle.paper.specs.Checks.{range, order, shape, loose, split, no-tree, ruled, tree}
 use Rattle.rows.specs.Passed.{Passed}
-use Rattle.rows.specs.Verdicts.{Judges}
-use Rattle.rows.specs.declared.verdict.Verdict.the-variants.{Pass}
-use Rattle.rows.proofs.Judged.{passes-first, passed}
+use Rattle.row_checks.specs.Verdicts.{Judges}
+use Rattle.row_checks.specs.declared.Verdict.the-variants.{Pass}
+use Rattle.row_checks.proofs.Judged.{passes-first, passed}
 use Rattle.counts.specs.Arrays.{Fitting}
 
 -- A table that 2 to 6 do not refuse.

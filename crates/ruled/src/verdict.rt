@@ -2,14 +2,13 @@
 use crate::checks;
 use crate::into;
 use paper::Refusal;
-use rows::verdict;
-use rows::verdict::Verdict;
+use row_checks::Verdict;
 ghost use Prim.Native.Nat.{_≤_};
 ghost use lib.ListN.{length};
 ghost use Rattle.paper.specs.Rows.{table};
 ghost use Rattle.paper.specs.Checks.{ruled, tree};
 ghost use Rattle.rows.specs.Places.{bare};
-ghost use Rattle.rows.specs.Verdicts.{Judges};
+ghost use Rattle.row_checks.specs.Verdicts.{Judges};
 ghost use Rattle.counts.specs.Arrays.{Fitting};
 ghost use Rattle.ruled.specs.Beyond.{beyond};
 
@@ -18,7 +17,7 @@ fn beyond(rows: &[i32]) -> Verdict
     requires { ⌜ Fitting (now rows) ⌝ }
     ensures { λ r. ⌜ Judges (beyond (bare (now (rows .entry)))) r ⌝ }
 {
-    if rows::checks::shape(rows) {
+    if row_checks::shape(rows) {
         return Verdict::Refused(Refusal::Shape);
     }
     let mut first = [0u16; 1024];
@@ -37,7 +36,7 @@ pub fn ruled(prod0: i32, k: usize, rows: &[i32]) -> Verdict
     requires { ⌜ length (now rows) ≤ 16384 ⌝ }
     ensures { λ r. ⌜ Judges (ruled (table prod0 k (now (rows .entry)))) r ⌝ }
 {
-    let v = verdict::plain(prod0, k, rows);
+    let v = row_checks::plain(prod0, k, rows);
     let Verdict::Pass = v else {
         return v;
     };

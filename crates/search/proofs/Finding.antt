@@ -12,14 +12,12 @@ use lib.Dec.{eqb}
 use lib.ListN.{length}
 use lib.IntN.{ℤ}
 use Rattle.paper.specs.Rows.{Row, rows-in, find}
-use Rattle.paper.specs.Checks.{row-fits}
 use Rattle.rows.specs.Places.{row-at, rest, key}
 use Rattle.rows.specs.Passed.{Passed}
 use Rattle.search.specs.Search.{Lower}
-use Rattle.rows.proofs.Rest.{rest-cons, rest-end, every-at}
-use Rattle.rows.proofs.Fits.{fit}
+use Rattle.rows.proofs.Rest.{rest-cons, rest-end}
 use Rattle.rows.proofs.Keys.{compared}
-use Rattle.rows.proofs.Passing.{keys-rise}
+use Rattle.rows.proofs.Passing.{fit-at, keys-rise}
 
 -- a row is for a state and a terminal exactly when it has their key
 for-key : (r : Row) (s t : ℕ) → r .terminal ≤ 65535 → t ≤ 65535 → key r ≡ s * 65536 + t
@@ -70,9 +68,8 @@ module _ (ns : List ℤ) (s t : ℕ) where
     pub found : Passed ns → t ≤ 65535 → i < length ns / 4 → key (row-at ns i) ≡ s * 65536 + t
         → find (rows-in ns) s t ≡ some (row-at ns i)
     found p k l e =
-        let f = fit (row-at ns i) (every-at row-fits ns i (p .fits) (omega arith)) in
         find-past i (b .within) (λ j h d. omega (arith, b .below j h))
-        ∙ find-here i (omega arith) (for-key (row-at ns i) s t (f .terminal) k e)
+        ∙ find-here i (omega arith) (for-key (row-at ns i) s t (fit-at p i l .terminal) k e)
 
     -- no row has it
     pub missing-end : length ns / 4 ≤ i → find (rows-in ns) s t ≡ none

@@ -22,10 +22,10 @@ use Rattle.paper.specs.Checks.{row-slice, little-room, shape, split, ruled}
 use Rattle.paper.specs.Shrink.{production-of, rows-of, shrunk, shrink-table, shrink}
 use Rattle.rows.specs.Places.{code, uncoded}
 use Rattle.rows.specs.Passed.{Passed}
-use Rattle.rows.specs.Verdicts.{Judges, follow}
-use Rattle.rows.specs.declared.verdict.Verdict.{Verdict}
-use Rattle.rows.specs.declared.verdict.Verdict.the-variants.{Refused}
-use Rattle.rows.proofs.Judged.{judged, bounded}
+use Rattle.row_checks.specs.Verdicts.{Judges, follow}
+use Rattle.row_checks.specs.declared.Verdict.{Verdict}
+use Rattle.row_checks.specs.declared.Verdict.the-variants.{Refused}
+use Rattle.row_checks.proofs.Judged.{judged, bounded}
 use Rattle.counts.specs.Arrays.{Fitting}
 use Rattle.ruled.proofs.Passes.{ruled-passed, ruled-rows, fitting}
 use Rattle.merging.specs.Marks.{source-of, heads-of, marked-row, marked-rows, marked, Marks}

@@ -2,8 +2,8 @@
 use paper::Making;
 use paper::Mode;
 use paper::Refusal;
+use row_checks::Verdict;
 use rows::numbers;
-use rows::verdict::Verdict;
 use shrink_alike::index;
 use shrink_classes::classes;
 use shrink_rows::emit;
@@ -95,7 +95,7 @@ pub fn shrink(mode: Mode, prod0: i32, k: usize, rows: &[i32], out: &mut [i32]) -
     ensures { λ r. ⌜ Makes (shrink mode prod0 k (now (rows .entry)) (length (now (out .entry)))) r
         (now (out .entry)) (now (out .exit)) ⌝ }
 {
-    if rows::checks::row_slice(rows) {
+    if row_checks::row_slice(rows) {
         return Making::Refused(Refusal::Length);
     }
     if out.len() < 16384 {

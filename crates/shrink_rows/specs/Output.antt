@@ -10,8 +10,8 @@ use Rattle.paper.specs.Rows.{Row, Table, numbers, rows-in, table}
 use Rattle.paper.specs.Checks.{ruled}
 use Rattle.paper.specs.Shrink.{production-of, rows-of}
 use Rattle.rows.specs.Places.{row-at}
-use Rattle.rows.specs.Verdicts.{Judges}
-use Rattle.rows.specs.declared.verdict.Verdict.the-variants.{Pass}
+use Rattle.row_checks.specs.Verdicts.{Judges}
+use Rattle.row_checks.specs.declared.Verdict.the-variants.{Pass}
 use Rattle.merging.specs.Marks.{heads-of, marked-rows}
 use Rattle.shrink_alike.specs.Faces.{mark-in, coded}
 use Rattle.shrink_classes.specs.Classes.{Classes}

@@ -1,7 +1,6 @@
 // Document 01, module 7: text out.
 use paper::Refusal;
 use paper::Writing;
-use rows::checks;
 use rows::numbers;
 
 pub mod writing;
@@ -15,16 +14,16 @@ pub fn text_out(prod0: i32, k: usize, rows: &[i32], out: &mut [u8]) -> Writing
     ensures { λ r. ⌜ Writes (text-out prod0 k (now (rows .entry)) (length (now (out .entry))))
         r (now (out .entry)) (now (out .exit)) ⌝ }
 {
-    if checks::row_slice(rows) {
+    if row_checks::row_slice(rows) {
         return Writing::Refused(Refusal::Length);
     }
     if out.len() < 262144 {
         return Writing::Refused(Refusal::Length);
     }
-    if checks::range(prod0, k, rows) {
+    if row_checks::range(prod0, k, rows) {
         return Writing::Refused(Refusal::Range);
     }
-    if checks::order(rows) {
+    if row_checks::order(rows) {
         return Writing::Refused(Refusal::Order);
     }
     let head = writing::put_head(out, numbers::coded(prod0), k);

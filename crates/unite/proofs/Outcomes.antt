@@ -21,10 +21,10 @@ use Rattle.paper.specs.Checks.{first, row-slice, little-room, tree}
 use Rattle.paper.specs.Build.{within}
 use Rattle.paper.specs.Unite.{root, united-k, united, unite-tables, unite}
 use Rattle.rows.specs.Places.{uncoded}
-use Rattle.rows.specs.Verdicts.{Judges}
-use Rattle.rows.specs.declared.verdict.Verdict.{Verdict}
-use Rattle.rows.specs.declared.verdict.Verdict.the-variants.{Pass, Refused}
-use Rattle.rows.proofs.Judged.{judged}
+use Rattle.row_checks.specs.Verdicts.{Judges}
+use Rattle.row_checks.specs.declared.Verdict.{Verdict}
+use Rattle.row_checks.specs.declared.Verdict.the-variants.{Pass, Refused}
+use Rattle.row_checks.proofs.Judged.{judged}
 use Rattle.grow_laws.specs.Moves.{front}
 use Rattle.grow_laws.specs.Held.{held, Laid, table-of}
 use Rattle.grow_laws.proofs.Fronts.{front-read}

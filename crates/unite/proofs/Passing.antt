@@ -13,11 +13,11 @@ use Rattle.laws.proofs.Every.{neither, every-in}
 use Rattle.paper.specs.Rows.{Table, accepting, rows-in, table}
 use Rattle.paper.specs.Checks.{row-slice, range, row-fits, tree}
 use Rattle.rows.specs.Places.{code}
-use Rattle.rows.specs.Verdicts.{Judges}
-use Rattle.rows.specs.declared.verdict.Verdict.the-variants.{Pass}
+use Rattle.row_checks.specs.Verdicts.{Judges}
+use Rattle.row_checks.specs.declared.Verdict.the-variants.{Pass}
 use Rattle.rows.proofs.Rest.{length-rows}
 use Rattle.rows.proofs.Fits.{fit}
-use Rattle.rows.proofs.Judged.{passed, bounded}
+use Rattle.row_checks.proofs.Judged.{passed, bounded}
 use Rattle.ruled.proofs.Passes.{tree-passed}
 use Rattle.trees.specs.Trees as trees
 use Rattle.trees.proofs.Tree.{Tree, into}

@@ -6,8 +6,8 @@ use lib.ListN.{length}
 use lib.IntN.{ℤ}
 use Rattle.paper.specs.Rows.{table}
 use Rattle.paper.specs.Checks.{tree}
-use Rattle.rows.specs.Verdicts.{Judges}
-use Rattle.rows.specs.declared.verdict.Verdict.the-variants.{Pass}
+use Rattle.row_checks.specs.Verdicts.{Judges}
+use Rattle.row_checks.specs.declared.Verdict.the-variants.{Pass}
 
 -- A row slice that passed 1.
 pub record Sized (ns : List ℤ) : Type 0 where

@@ -2,8 +2,8 @@
 use paper::Making;
 use paper::Mode;
 use paper::Refusal;
+use row_checks::Verdict;
 use rows::numbers;
-use rows::verdict::Verdict;
 use unite_meet::Meet;
 use unite_scan::Scan;
 use unite_taking::Union;
@@ -108,10 +108,10 @@ pub fn unite(
         (length (now (out .entry))))
         r (now (out .entry)) (now (out .exit)) ⌝ }
 {
-    if rows::checks::row_slice(a) {
+    if row_checks::row_slice(a) {
         return Making::Refused(Refusal::Length);
     }
-    if rows::checks::row_slice(b) {
+    if row_checks::row_slice(b) {
         return Making::Refused(Refusal::Length);
     }
     if out.len() < 16384 {

@@ -9,7 +9,7 @@ use mir.Syntax.{w32}
 use mir.Val.{toZ, ofZ}
 use Rattle.paper.specs.Rows.{table}
 use Rattle.rows.proofs.Signed.{same, back}
-use Rattle.rows.proofs.Judged.{plain-bounded}
+use Rattle.row_checks.proofs.Judged.{plain-bounded}
 use Rattle.predict.specs.Checked.{checked}
 use Rattle.batch.proofs.Counts.{window-there, next-place, few-tokens}
 use Rattle.batch.proofs.Windows.{once-done, one-more, all-done}

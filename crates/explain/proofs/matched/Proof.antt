@@ -1,6 +1,6 @@
 use mathlib.Core.Path.{sym, _∙_}
 use Rattle.rows.proofs.Signed.{same}
-use Rattle.rows.proofs.Judged.{plain-passed}
+use Rattle.row_checks.proofs.Judged.{plain-passed}
 use Rattle.explain.specs.Stopped.{stopped}
 use Rattle.explain.proofs.Stretches.{matched-length, matched-refused, matched-passed}
 use borrow.Author.Needs.{needs}

@@ -5,7 +5,7 @@ use lib.IntN.{ℤ}
 use Rattle.paper.specs.Rows.{accepting, table}
 use Rattle.paper.specs.Predict.{answer}
 use Rattle.rows.proofs.Signed.{same}
-use Rattle.rows.proofs.Judged.{plain-bounded, plain-passed}
+use Rattle.row_checks.proofs.Judged.{plain-bounded, plain-passed}
 use Rattle.walk.specs.Seen.{seen, reached}
 use Rattle.predict.proofs.Parts.{chosen-by}
 use Rattle.predict.proofs.chosen.Statement.{statement}

@@ -1,7 +1,7 @@
 -- The verdict is that of 4, then 5, then 6. Assumes nothing.
 use mathlib.Core.Path.{refl, sym, _∙_}
 use Rattle.paper.specs.declared.Refusal.the-variants.{Shape, Loose, Split}
-use Rattle.rows.proofs.Judged.{done, refuses, next-check}
+use Rattle.row_checks.proofs.Judged.{done, refuses, next-check}
 use Rattle.counts.proofs.Arrays.{clear}
 use borrow.Author.Needs.{needs}
 use Rattle.ruled.proofs.verdict.beyond.Statement.{statement}

@@ -1,7 +1,7 @@
 -- The verdict of 2 and 3 stands where it refuses; else that of 4 to 6 decides. Assumes nothing.
 use Rattle.paper.specs.Rows.{table}
 use Rattle.paper.specs.Checks.{plain}
-use Rattle.rows.proofs.Judged.{plain-passed}
+use Rattle.row_checks.proofs.Judged.{plain-passed}
 use Rattle.ruled.specs.Beyond.{beyond}
 use Rattle.ruled.proofs.Judging.{judges-stop, judges-on, as-pass, passed-on, beyond-rows}
 use Rattle.ruled.proofs.Passes.{fitting}

@@ -4,7 +4,7 @@ use mathlib.Core.List.{[], _∷_}
 use Rattle.paper.specs.declared.Refusal.the-variants.{Tree}
 use Rattle.paper.specs.Rows.{table}
 use Rattle.paper.specs.Checks.{ruled, no-tree}
-use Rattle.rows.proofs.Judged.{done, refuses, next-check}
+use Rattle.row_checks.proofs.Judged.{done, refuses, next-check}
 use Rattle.ruled.proofs.Judging.{judges-stop, judges-on, as-pass, passed-on, tree-rows}
 use Rattle.ruled.proofs.Passes.{fitting, ruled-passed, ruled-rows}
 use borrow.Author.Needs.{needs}

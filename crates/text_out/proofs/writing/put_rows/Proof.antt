@@ -6,10 +6,8 @@ use mathlib.Core.List.{[]}
 use native.Mathlib.Omega.{arith}
 use lib.ListN.{length}
 use Rattle.paper.specs.Rows.{rows-in}
-use Rattle.paper.specs.Checks.{row-fits}
 use Rattle.rows.specs.Places.{row-at, rest}
-use Rattle.rows.proofs.Rest.{every-at}
-use Rattle.rows.proofs.Fits.{Fit, fit}
+use Rattle.rows.proofs.Fits.{fits-at}
 use Rattle.text_laws.specs.Put.{put, Puts}
 use Rattle.text_laws.specs.Written.{row, row-text, rows-text}
 use Rattle.text_laws.proofs.Put.{put-nil}
@@ -51,7 +49,7 @@ put-row-requires c κs =
     let a = b .before .before in
     let ns = a .args .table .now in
     let i = b .loop .i in
-    let f : Fit (row-at ns i) = fit (row-at ns i) (every-at row-fits ns i (a .pre .1) (omega arith)) in (
+    let f = fits-at ns (a .pre .1) i (omega arith) in (
       omega arith,
       omega (arith, d .before .before .before .from-at .ensures .is, f .from),
       omega (arith, d .before .before .terminal-at .ensures .is, f .terminal),

@@ -5,10 +5,10 @@ use native.Mathlib.Omega.{arith}
 use borrow.Author.Needs.{needs}
 use Rattle.paper.specs.Rows.{rows-in}
 use Rattle.paper.specs.Checks.{rising, order}
 use Rattle.rows.specs.Places.{row-at, rest, key}
 use Rattle.rows.proofs.Keys.{rising-next, rising-fails, rising-end}
-use Rattle.rows.proofs.checks.order.Statement.{statement}
-use Rattle.rows.proofs.checks.order.Tie as tie
+use Rattle.row_checks.proofs.order.Statement.{statement}
+use Rattle.row_checks.proofs.order.Tie as tie
 
 abbrev Inv-loop : tie.InvT-loop
 Inv-loop rows n last₀ i₀ last i =

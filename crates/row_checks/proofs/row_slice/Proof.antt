@@ -1,7 +1,7 @@
 use borrow.Author.Tests.{eq-eqb, ne-eqb}
 use Rattle.paper.specs.Checks.{row-slice}
-use Rattle.rows.proofs.checks.row_slice.Statement.{statement}
-use Rattle.rows.proofs.checks.row_slice.Tie as tie
+use Rattle.row_checks.proofs.row_slice.Statement.{statement}
+use Rattle.row_checks.proofs.row_slice.Tie as tie
 
 returns : tie.Need-returns
 unfolding row-slice

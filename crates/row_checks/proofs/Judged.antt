@@ -15,13 +15,13 @@ use Rattle.paper.specs.Rows.{Table, table}
 use Rattle.paper.specs.declared.Refusal.{Refusal}
 use Rattle.paper.specs.Answers.{Ruling, accept, refuse, then, number, detail}
 use Rattle.paper.specs.Checks.{first, every, row-fits, rising, production-fits, range, order, plain}
 use Rattle.rows.specs.Passed.{Passed}
-use Rattle.rows.specs.Verdicts.{follow, Judges}
-use Rattle.rows.specs.declared.verdict.Verdict.{Verdict}
-use Rattle.rows.specs.declared.verdict.Verdict.the-variants.{Pass, Refused}
+use Rattle.row_checks.specs.Verdicts.{follow, Judges}
+use Rattle.row_checks.specs.declared.Verdict.{Verdict}
+use Rattle.row_checks.specs.declared.Verdict.the-variants.{Pass, Refused}
 use Rattle.rows.specs.Places.{code}
 use Rattle.rows.proofs.Rest.{both}
 use Rattle.rows.proofs.Fits.{code-fits}
 
 module _ {A : Type 0} (x : Ruling A) where
   first-then : (cs : List (Bool × ℕ)) → first cs x ≡ then {A = ℕ} (first cs (accept 0)) (λ _. x)

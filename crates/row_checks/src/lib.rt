@@ -1,12 +1,20 @@
-// The checks 1 to 7: each true when it refuses.
-use crate::numbers;
+// Document 01, module 1: the checks 1 to 4, each true when it refuses, and what 2 and 3 say of a table.
+use paper::Refusal;
+use rows::numbers;
 ghost use mathlib.Core.Path.{_≡_};
 ghost use mathlib.Core.Bool.{true};
 ghost use Prim.Native.Nat.{_+_, _*_, _<_};
 ghost use lib.ListN.{length};
 ghost use Rattle.paper.specs.Rows.{rows-in, table};
-ghost use Rattle.paper.specs.Checks.{row-slice, row-fits, every, range, order, shape};
+ghost use Rattle.paper.specs.Checks.{row-slice, row-fits, every, range, order, shape, plain};
 ghost use Rattle.rows.specs.Places.{row-at, bare};
+ghost use Rattle.row_checks.specs.Verdicts.{Judges};
+
+// What the checks say.
+pub enum Verdict {
+    Pass,
+    Refused(Refusal),
+}
 
 // 1 LENGTH, of a row slice.
 pub fn row_slice(rows: &[i32]) -> bool
@@ -99,4 +107,17 @@ pub fn shape(rows: &[i32]) -> bool
         i += 1;
     }
     false
+}
+
+// The checks 2 and 3.
+pub fn plain(prod0: i32, k: usize, rows: &[i32]) -> Verdict
+    ensures { λ r. ⌜ Judges (plain (table prod0 k (now (rows .entry)))) r ⌝ }
+{
+    if range(prod0, k, rows) {
+        return Verdict::Refused(Refusal::Range);
+    }
+    if order(rows) {
+        return Verdict::Refused(Refusal::Order);
+    }
+    Verdict::Pass
 }

@@ -5,8 +5,8 @@ use mathlib.Core.List.{List}
 use Prim.Native.Nat.{ℕ}
 use Rattle.paper.specs.Answers.{Ruling, accept, refuse, number, detail}
 use Rattle.paper.specs.Checks.{first}
-use Rattle.rows.specs.declared.verdict.Verdict.{Verdict}
-use Rattle.rows.specs.declared.verdict.Verdict.the-variants.{Pass, Refused}
+use Rattle.row_checks.specs.declared.Verdict.{Verdict}
+use Rattle.row_checks.specs.declared.Verdict.the-variants.{Pass, Refused}
 
 -- A verdict, followed by what is left to do.
 abbrev pub follow : {A : Type 0} → Verdict → Ruling A → Ruling A

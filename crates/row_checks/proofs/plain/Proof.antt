@@ -2,10 +2,10 @@ use mathlib.Core.Path.{refl, sym, _∙_}
 use Rattle.paper.specs.declared.Refusal.the-variants.{Range, Order}
 use Rattle.paper.specs.Rows.{table}
 use Rattle.paper.specs.Checks.{order}
-use Rattle.rows.proofs.Judged.{done, refuses, next-check, range-passed, rows-fit}
+use Rattle.row_checks.proofs.Judged.{done, refuses, next-check, range-passed, rows-fit}
 use borrow.Author.Needs.{needs}
-use Rattle.rows.proofs.verdict.plain.Statement.{statement}
-use Rattle.rows.proofs.verdict.plain.Tie as tie
+use Rattle.row_checks.proofs.plain.Statement.{statement}
+use Rattle.row_checks.proofs.plain.Tie as tie
 
 range-requires : tie.Need-range-requires
 range-requires c κs = search needs

@@ -2,11 +2,11 @@ use mathlib.Core.Path.{ap, _∙_}
 use Prim.Native.Nat.{ℕ}
 use native.Mathlib.Omega.{arith}
 use lib.Dec.{leb}
 use Rattle.rows.specs.Places.{row-at}
 use Rattle.rows.proofs.Fits.{from-out, terminal-out, to-out, production-left}
 use borrow.Author.Needs.{needs}
-use Rattle.rows.proofs.checks.row_fits.Statement.{statement}
-use Rattle.rows.proofs.checks.row_fits.Tie as tie
+use Rattle.row_checks.proofs.row_fits.Statement.{statement}
+use Rattle.row_checks.proofs.row_fits.Tie as tie
 
 from-at-requires : tie.Need-from-at-requires
 from-at-requires c κs = search needs

@@ -5,10 +5,10 @@ use borrow.Author.Needs.{needs}
 use borrow.Author.Tests.{not-true, not-false}
 use Rattle.paper.specs.Rows.{rows-in}
 use Rattle.paper.specs.Checks.{every, row-fits}
 use Rattle.rows.specs.Places.{rest}
 use Rattle.rows.proofs.Rest.{every-next, every-fails, every-end}
-use Rattle.rows.proofs.checks.rows_fit.Statement.{statement}
-use Rattle.rows.proofs.checks.rows_fit.Tie as tie
+use Rattle.row_checks.proofs.rows_fit.Statement.{statement}
+use Rattle.row_checks.proofs.rows_fit.Tie as tie
 
 abbrev Inv-loop : tie.InvT-loop
 Inv-loop rows n i₀ i = every row-fits (rows-in rows) ≡ every row-fits (rest rows i)

@@ -1,12 +1,12 @@
 use Rattle.paper.specs.Rows.{accepting, table}
 use Rattle.rows.specs.Places.{code}
 use Rattle.rows.proofs.Signed.{read-passed}
 use mathlib.Core.Path.{ap, _∙_}
 use mathlib.Core.Bool.{not}
 use Rattle.rows.proofs.Fits.{prod0-out, k-out, rows-left}
 use borrow.Author.Needs.{needs}
-use Rattle.rows.proofs.checks.range.Statement.{statement}
-use Rattle.rows.proofs.checks.range.Tie as tie
+use Rattle.row_checks.proofs.range.Statement.{statement}
+use Rattle.row_checks.proofs.range.Tie as tie
 
 coded-requires : tie.Need-coded-requires
 coded-requires c κs = search needs

@@ -7,10 +7,10 @@ use Rattle.paper.specs.Rows.{Row, rows-in}
 use Rattle.paper.specs.Checks.{any, shape}
 use lib.Dec.{leb}
 use mathlib.Core.Bool.{Bool}
 use Rattle.rows.specs.Places.{row-at, rest}
 use Rattle.rows.proofs.Rest.{any-next, any-here, any-end}
-use Rattle.rows.proofs.checks.shape.Statement.{statement}
-use Rattle.rows.proofs.checks.shape.Tie as tie
+use Rattle.row_checks.proofs.shape.Statement.{statement}
+use Rattle.row_checks.proofs.shape.Tie as tie
 
 abbrev falls : Row → Bool
 falls r = leb (r .to) (r .from)
