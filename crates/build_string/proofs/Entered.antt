@@ -12,7 +12,7 @@ use Rattle.paper.specs.Rows.{Row, find}
 use Rattle.paper.specs.Build.{Standing, insert, enter}
 use Rattle.rows.proofs.Passing.{fit-at}
 use Rattle.trees.proofs.Find.{length-insert}
-use Rattle.grow_laws.specs.Held.{held, row-held, Laid, Missed, Adding, next, Added}
+use Rattle.grow_laws.specs.Held.{held, row-held, Laid, Missed, next, Added}
 use Rattle.grow_laws.proofs.Written.{held-numbers, held-length}
 use Rattle.grow_laws.proofs.Placed.{room}
 use Rattle.build_string.specs.Steps.{Leads, Stands}
@@ -61,9 +61,6 @@ module _ (buf : List ℤ) (n s t : ℕ) where
         length-insert
             (next (length rs) s t 0) rs,
       )
-
-  pub adding : (i : ℕ) → t ≤ 65535 → Missed buf n i s t → n < 1023 → Adding buf n i s t 0
-  adding i k m h = record { missed = m; more = h; terminal = k; production = omega arith }
 
   -- into a new state
   pub grows : (i : ℕ) (new : List ℤ) → Missed buf n i s t → Added buf new n i s t 0

@@ -16,7 +16,7 @@ use Rattle.paper.specs.Unite.{taken}
 use Rattle.rows.specs.Places.{uncoded}
 use Rattle.trees.proofs.Find.{length-insert}
 use Rattle.trees.proofs.Paint.{paint}
-use Rattle.grow_laws.specs.Held.{held, row-held, Missed, next, Adding, Added, Given}
+use Rattle.grow_laws.specs.Held.{held, row-held, Missed, next, Added, Given}
 use Rattle.grow_laws.proofs.Written.{held-length}
 use Rattle.grow_laws.proofs.Placed.{room}
 use Rattle.unite_taking.specs.Taking.{taking, Stands, Over, Takes}
@@ -47,10 +47,6 @@ module _ (buf : List ℤ) (n i s t c : ℕ) (m : Missed buf n i s t) (mode : Mod
     small = omega arith;
     is = as-next ∙ ap (λ (rs : List Row). accept (record { rows = rs; state = suc n })) (sym (a .rows));
   })
-
-pub adding : (buf : List ℤ) (n i s t c : ℕ) → Missed buf n i s t → c ≤ 65536 → t ≤ 65535 → n < 1023
-    → Adding buf n i s t c
-adding buf n i s t c m q k h = record { missed = m; more = h; terminal = k; production = q }
 
 -- ---- a row that is there
 module _ (mode : Mode) (rs : List Row) (x : Row) (p : ℕ) (q : Option ℕ) (e : uncoded p ≡ x .production) (s t : ℕ) where
