@@ -1,7 +1,7 @@
 // Check 7 and the state count, each by one array over the states.
 use rows::numbers;
 ghost use mathlib.Core.Path.{_≡_};
-ghost use Prim.Native.Nat.{_+_, _/_, _<_, _≤_};
+ghost use Prim.Native.Nat.{_/_, _<_, _≤_};
 ghost use lib.ListN.{length, getD};
 ghost use Rattle.paper.specs.Rows.{rows-in, states};
 ghost use Rattle.paper.specs.Checks.{each-once, no-tree};

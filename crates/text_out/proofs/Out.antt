@@ -1,5 +1,5 @@
 -- What text out answers, check by check. Assumes nothing.
-use Prim.Native.Nat.{ℕ, _+_, _%_, _<_, _≤_}
+use Prim.Native.Nat.{ℕ, _%_, _<_, _≤_}
 use mathlib.Core.Path.{_≡_, ap, sym, subst, _∙_}
 use mathlib.Core.Bool.{Bool, true, false, not, _&&_}
 use mathlib.Core.List.{List, [], _∷_, _++_, append-assoc}

@@ -1,6 +1,6 @@
 -- A line in form is what its numbers are written as. Assumes nothing.
 use Prim.Native.String.{String}
-use Prim.Native.Nat.{ℕ, _+_}
+use Prim.Native.Nat.{ℕ}
 use mathlib.Core.Path.{_≡_, refl, ap, sym, _∙_}
 use mathlib.Core.Bool.{Bool, cond}
 use mathlib.Core.Option.{Option, none, some}

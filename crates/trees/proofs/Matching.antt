@@ -1,7 +1,7 @@
 -- What is known while the rows of the second table are taken, in either mode: every path in the rows taken so far has
 -- its match in the union, and the union says what the first and these rows say together. Assumes nothing.
 use mathlib.Core.Path.{_≡_, refl, sym, _∙_, ap}
-use mathlib.Core.Logic.{⊎-elim, _⊎_}
+use mathlib.Core.Logic.{⊎-elim}
 use mathlib.Core.Option.{Option, none, some}
 use mathlib.Core.List.{List, [], _∷_, _++_, List-discrete}
 use Prim.Native.Nat.{ℕ}

@@ -1,7 +1,7 @@
 -- The order of the lists changes no answer: neither what they say, nor what the chain of calls comes to.
 -- Assumes nothing.
 use mathlib.Core.Path.{_≡_, refl, sym, _∙_, ap, ap₂}
-use mathlib.Core.Logic.{⊎-elim, _⊎_}
+use mathlib.Core.Logic.{⊎-elim}
 use mathlib.Core.Bool.{Bool, true, false, cond, false≢true}
 use mathlib.Core.Option.{Option, none, some}
 use mathlib.Core.List.{List, [], _∷_, _++_, List·Memᴰ·head, Memᴰ·cast, List·Permᴰ, List·Permᴰ·nil, List·Permᴰ·cons}

@@ -1,4 +1,4 @@
-use Prim.Native.Nat.{_-_, _≤_}
+use Prim.Native.Nat.{_≤_}
 use native.Mathlib.Omega.{arith}
 use Rattle.shrink_classes.proofs.Entered.{Above, above-all, above-less, topped, topped-zero}
 use Rattle.shrink_classes.proofs.classes.top.Statement.{statement}

@@ -1,6 +1,6 @@
 -- `text_out::writing::put_number` meets its contract. The loop's invariant: with the i digits still left written, the
 -- output is the one asked for. Assumes nothing.
-use Prim.Native.Nat.{_+_, _-_, _≤_}
+use Prim.Native.Nat.{_+_, _≤_}
 use mathlib.Core.Path.{_≡_, refl, sym, _∙_}
 use native.Mathlib.Omega.{arith}
 use lib.ListN.{length, length-set}
