@@ -9,7 +9,7 @@ const BATCHES: usize = 31;
 /// A line of a table: what, then the Rust's time and ours, ratios first, over 1 where ours is faster. The first piece of
 /// work is the Rust's; a time is the median of its batches in nanoseconds for each of `units` units.
 pub fn race<const N: usize>(what: &str, units: usize, places: usize, mut works: [Work; N]) {
-    let turns: Vec<usize> = works.iter_mut().map(|work| turns(work)).collect();
+    let turns: Vec<usize> = works.iter_mut().map(turns).collect();
     let mut times = vec![Vec::new(); N];
     for _ in 0..BATCHES {
         for (i, work) in works.iter_mut().enumerate() {

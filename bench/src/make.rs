@@ -74,7 +74,7 @@ fn fall(i: u16) -> u16 {
 
 /// By turns from the low end and from the high end: every row goes into the middle of those before it.
 fn close_in(i: u16) -> u16 {
-    if i % 2 == 0 { i } else { 4000 - i }
+    if i.is_multiple_of(2) { i } else { 4000 - i }
 }
 
 pub fn build() {
