@@ -1,7 +1,8 @@
 //! The proved calls beside the Rust and the reading of document 01, on the same inputs.
 //!
-//! `compare` is the short run, `compare long [ROUNDS]` the long one, `compare faults` shows that differences are
-//! reported; `compare fault` is a short run with one number changed on purpose, which must fail.
+//! `compare` is the short run, `compare long [ROUNDS]` the long one, of ten rounds if no number is named.
+//! `compare faults` shows that differences are reported; `compare fault` is a short run with one number changed on
+//! purpose, which must fail.
 
 mod calls;
 mod damage;

@@ -12,8 +12,8 @@ use std::time::{Duration, Instant};
 /// Each family is cut into so many parts, however many threads there are.
 const PARTS: usize = 4;
 
-/// Rounds of a long run: some 20 minutes on two cores.
-pub const LONG: usize = 80;
+/// Rounds of a long run, if no number is named: some 4 minutes on two cores; 80 take some 30.
+pub const LONG: usize = 10;
 
 /// What a family came to.
 #[derive(Default, Clone, Copy)]
