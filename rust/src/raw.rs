@@ -1,14 +1,16 @@
-//! The exported calls as the static library has them; `c/lookahead.h` says each in two lines.
+//! The exported calls as the static library has them; `c/lookahead.h` says each in a few lines.
 //!
-//! A slice crosses as a pointer and a length, `answer` as a pointer to four numbers. Each call returns the refusal's
-//! number, 0 if it accepted, and writes all four numbers of the answer.
+//! A slice crosses as a pointer and a length, `answer` as a pointer to four numbers, a mode as a number: 0 is archive,
+//! any other intake. Each call but [`lookahead_stretch`] returns the refusal's number, 0 if it accepted; each but
+//! [`lookahead_check`] writes all four numbers of the answer.
 
 #[rustfmt::skip]
 unsafe extern "C" {
     /// Build: prod0 plus one, k, the row count, the state count.
     ///
     /// # Safety
-    /// Each pointer is good for its length, the answer for four numbers, and no output overlaps anything else.
+    /// Each pointer is aligned, not null even for length 0, and good for its length, the answer's for four numbers; no
+    /// output and no answer overlaps anything else.
     pub fn lookahead_build(production: i32, tokens: *const u16, tokens_len: usize, lengths: *const usize,
         lengths_len: usize, out: *mut i32, out_len: usize, answer: *mut u64) -> usize;
     /// Unite: the values as build's.
