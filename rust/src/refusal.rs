@@ -2,7 +2,7 @@
 
 use std::fmt;
 
-/// A refusal of document 01. It prints its number, its name, and what it says.
+/// A refusal of document 01. It prints its number, its name, and what it says. Later calls may have more of them.
 ///
 /// ```
 /// use lookahead::Refusal;
@@ -13,8 +13,9 @@ use std::fmt;
 /// assert_eq!(3, Refusal::Order.number());
 /// ```
 #[derive(Debug, Clone, Copy, PartialEq, Eq, Hash)]
+#[non_exhaustive]
 pub enum Refusal {
-    /// 1: a slice of a wrong length, too little room, too many strings, or lengths that do not sum up.
+    /// 1: a slice of a wrong length, too little room, too many strings, rows or windows, or lengths that do not sum up.
     Length,
     /// 2: a number outside its bounds.
     Range,
@@ -87,12 +88,14 @@ impl Refusal {
         }
     }
 
-    /// Its number in document 01, 1 to 14.
+    /// Its number in document 01.
+    #[must_use]
     pub fn number(self) -> usize {
         self.title().0
     }
 
     /// Its name in document 01.
+    #[must_use]
     pub fn name(self) -> &'static str {
         self.title().1
     }
@@ -103,7 +106,9 @@ impl fmt::Display for Refusal {
         let (number, name) = self.title();
         write!(f, "{number} {name}: ")?;
         match self {
-            Refusal::Length => f.write_str("a slice, a list or a sum of lengths is not as asked"),
+            Refusal::Length => f.write_str(
+                "a wrong length or sum of lengths, too little room, or too many strings, rows or windows",
+            ),
             Refusal::Range => f.write_str("a number outside its bounds"),
             Refusal::Order => f.write_str("rows not strictly rising"),
             Refusal::Shape => f.write_str("a row with to not above from"),
