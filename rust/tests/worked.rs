@@ -1,6 +1,8 @@
-//! Document 01's worked cases, through the safe functions.
+//! Document 01's worked cases, but for the program's, through the safe functions.
 use lookahead::lent::{self, Lent, ROOM, TEXT_ROOM};
 use lookahead::{Mode, Refusal, Table};
+
+const MODES: [Mode; 2] = [Mode::Archive, Mode::Intake];
 
 fn table(prod0: i32, k: usize, rows: &[i32]) -> Table {
     Table::from_numbers(prod0, k, rows.to_vec()).unwrap()
@@ -12,15 +14,61 @@ fn a_and_b() -> (Table, Table) {
     (a, b)
 }
 
+/// Archive B with A.
+fn t() -> Table {
+    table(-1, 2, &[0, 5, 1, 1, 0, 7, 3, 1, 1, 6, 2, 2])
+}
+
+/// The production for two tokens, with the same k for the stream.
+fn production(mode: Mode, t: &Table, tokens: [u16; 2]) -> Result<u16, Refusal> {
+    t.predict(mode, 2, &tokens).map(|said| said.production)
+}
+
+#[test]
+fn built() {
+    let mut out = [7; ROOM];
+    let empty = lent::build(4, &[], &[], &mut out).unwrap();
+    assert_eq!((4, 0), (empty.prod0, empty.k));
+    assert_eq!((0, 1), (empty.rows, empty.states));
+    assert_eq!([7; ROOM], out);
+    let (a, _) = a_and_b();
+    assert_eq!(table(-1, 1, &[0, 5, 1, 1, 0, 7, 2, 1]), a);
+}
+
+#[test]
+fn built_up_to_the_limits() {
+    assert_eq!(16, Table::build(1, &[[5; 16]]).unwrap().k());
+    assert_eq!(Err(Refusal::Range), Table::build(1, &[[5; 17]]));
+    let strings: Vec<[u16; 16]> = (0..64).map(|first| [first; 16]).collect();
+    assert_eq!(Err(Refusal::Full), Table::build(1, &strings));
+    let mut strings: Vec<&[u16]> = strings.iter().map(|s| &s[..]).collect();
+    strings[63] = &strings[63][..15];
+    assert_eq!(1_023, Table::build(1, &strings).unwrap().rows().len());
+}
+
 #[test]
 fn united() {
     let (a, b) = a_and_b();
     let archive = table(-1, 1, &[0, 5, 1, -1, 0, 7, 2, 1, 1, 6, 3, 2]);
+    let none = production(Mode::Archive, &archive, [5, 6]);
+    assert_eq!(Err(Refusal::None), none);
     assert_eq!(Ok(archive), a.unite(Mode::Archive, &b));
-    let t = table(-1, 2, &[0, 5, 1, 1, 0, 7, 3, 1, 1, 6, 2, 2]);
-    assert_eq!(Ok(t), b.unite(Mode::Archive, &a));
+    assert_eq!(Ok(t()), b.unite(Mode::Archive, &a));
     let intake = table(-1, 2, &[0, 5, 1, 1, 0, 7, 2, 1, 1, 6, 3, 2]);
     assert_eq!(Ok(intake), a.unite(Mode::Intake, &b));
+}
+
+#[test]
+fn clashes() {
+    let clash = Err(Refusal::Clash(1, 2));
+    let empty = |production| Table::build(production, &[[]]).unwrap();
+    let archive = empty(1).unite(Mode::Archive, &empty(2)).unwrap();
+    assert_eq!(Some(1), archive.prod0());
+    assert_eq!(clash, empty(1).unite(Mode::Intake, &empty(2)));
+    let five = |production| Table::build(production, &[[5]]).unwrap();
+    for mode in MODES {
+        assert_eq!(clash, five(1).unite(mode, &five(2)));
+    }
 }
 
 #[test]
@@ -50,15 +98,36 @@ fn the_root() {
     assert_eq!(Err(Refusal::Root), root);
     let said = t.predict(Mode::Intake, 2, &[5, 9]).unwrap();
     assert_eq!((3, 1), said.into());
+    for mode in MODES {
+        assert_eq!(Ok(3), production(mode, &t, [9, 9]));
+    }
 }
 
 #[test]
 fn shrunk() {
+    let old = t().shrink(Mode::Archive).unwrap();
+    assert_eq!(table(-1, 2, &[0, 5, 1, 1, 0, 7, 1, 1]), old.table);
+    assert_eq!(3, old.states);
+    assert_eq!(Ok(1), production(Mode::Archive, &old.table, [5, 6]));
+    let new = t().shrink(Mode::Intake).unwrap();
+    assert_eq!((t(), 4), (new.table, new.states));
+
     let t = table(1, 1, &[0, 3, 1, 1, 0, 5, 2, 2]);
     let old = t.shrink(Mode::Archive).unwrap();
     assert_eq!((2, 0), (old.states, old.table.rows().len()));
     let new = t.shrink(Mode::Intake).unwrap();
     assert_eq!((3, 2), (new.states, new.table.rows().len()));
+}
+
+#[test]
+fn shrunk_twice() {
+    let t = table(-1, 2, &[0, 4, 1, 7, 0, 6, 2, -1, 2, 4, 3, 7]);
+    for mode in MODES {
+        let once = t.shrink(mode).unwrap();
+        let rows = [0, 4, 1, 7, 0, 6, 2, -1, 2, 4, 1, 7];
+        assert_eq!((table(-1, 2, &rows), 3), (once.table.clone(), once.states));
+        assert_eq!(Err(Refusal::Shape), once.table.shrink(mode));
+    }
     let not_ruled = table(-1, 1, &[0, 5, 0, 1]);
     assert_eq!(Err(Refusal::Shape), not_ruled.shrink(Mode::Intake));
 }
