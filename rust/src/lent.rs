@@ -33,16 +33,22 @@ pub const WINDOWS: usize = 4_096;
 /// A table as it is lent: any numbers, any length.
 #[derive(Debug, Clone, Copy, PartialEq, Eq)]
 pub struct Lent<'a> {
+    /// What state 0 accepts, -1 for nothing.
     pub prod0: i32,
+    /// How many tokens a prediction needs.
     pub k: usize,
+    /// The rows, four numbers each.
     pub rows: &'a [i32],
 }
 
 /// A table whose rows stand at the front of the output.
 #[derive(Debug, Clone, Copy, PartialEq, Eq)]
 pub struct Made {
+    /// What state 0 accepts, -1 for nothing.
     pub prod0: i32,
+    /// How many tokens a prediction needs.
     pub k: usize,
+    /// The count of rows.
     pub rows: usize,
     /// The count of states; of a table that was read from text 0, since text does not tell it.
     pub states: usize,
@@ -50,6 +56,10 @@ pub struct Made {
 
 impl Made {
     /// The table at the front of the output that it was made in.
+    ///
+    /// # Panics
+    /// If `out` is shorter than the rows: only another slice than the one that was written can be.
+    #[must_use]
     pub fn lent(self, out: &[i32]) -> Lent<'_> {
         Lent {
             prod0: self.prod0,
@@ -71,7 +81,9 @@ impl Made {
 /// A prediction: the production, and the count of rows entered.
 #[derive(Debug, Clone, Copy, PartialEq, Eq, Hash)]
 pub struct Predicted {
+    /// The production.
     pub production: u16,
+    /// The count of rows entered.
     pub entered: usize,
 }
 
@@ -88,9 +100,11 @@ fn asked(call: impl FnOnce(*mut u64) -> usize) -> Result<[u64; 4], Refusal> {
     Refusal::of(number, &values).map_or(Ok(values), Err)
 }
 
-// SAFETY of all calls below: each reads the lent slices and writes its output slice and the four numbers of the answer.
+// SAFETY of all calls below: each pointer and length is a live slice's; `out` and `answer` are borrowed alone; the
+// library keeps none of them.
 
 /// The tree of a list of strings, whose tokens stand one after the other, under one production.
+/// Refuses by 1, 2, 14.
 #[rustfmt::skip]
 pub fn build(production: i32, tokens: &[u16], lengths: &[usize], out: &mut [i32]) -> Result<Made, Refusal> {
     asked(|answer| unsafe {
@@ -99,7 +113,7 @@ pub fn build(production: i32, tokens: &[u16], lengths: &[usize], out: &mut [i32]
     }).map(Made::of)
 }
 
-/// Two trees as one.
+/// Two trees as one. Refuses by 1, 2 to 7 of the first, 2 to 7 of the second, 8, 14.
 #[rustfmt::skip]
 pub fn unite(mode: Mode, a: Lent, b: Lent, out: &mut [i32]) -> Result<Made, Refusal> {
     asked(|answer| unsafe {
@@ -108,7 +122,7 @@ pub fn unite(mode: Mode, a: Lent, b: Lent, out: &mut [i32]) -> Result<Made, Refu
     }).map(Made::of)
 }
 
-/// A ruled table with states that are alike made one.
+/// A ruled table with states that are alike made one. Refuses by 1 to 6.
 #[rustfmt::skip]
 pub fn shrink(mode: Mode, t: Lent, out: &mut [i32]) -> Result<Made, Refusal> {
     asked(|answer| unsafe {
@@ -118,7 +132,11 @@ pub fn shrink(mode: Mode, t: Lent, out: &mut [i32]) -> Result<Made, Refusal> {
 }
 
 /// Lists built, united one after the other and shrunk in intake mode. List i has `counts[i]` strings under
-/// `productions[i]`; the strings' lengths and tokens stand one after the other.
+/// `productions[i]`; the strings' lengths and tokens stand one after the other. A list without strings makes state 0
+/// accept, in both modes.
+///
+/// Refuses by 1 (no list, other counts than lists, sums that do not fit, a short `out`), then as the first step that
+/// refuses: by 1, 2 or 14 of a list, by 8 or 14 of uniting it.
 #[rustfmt::skip]
 pub fn intake(productions: &[i32], counts: &[usize], lengths: &[usize], tokens: &[u16], out: &mut [i32])
     -> Result<Made, Refusal> {
@@ -128,13 +146,14 @@ pub fn intake(productions: &[i32], counts: &[usize], lengths: &[usize], tokens: 
     }).map(Made::of)
 }
 
-/// The checks of predict and explain on the table alone: 1, 2, 3.
+/// The checks of predict and explain on the table alone. Refuses by 1, 2, 3.
 pub fn check(t: Lent) -> Result<(), Refusal> {
     let number = unsafe { raw::lookahead_check(t.prod0, t.k, t.rows.as_ptr(), t.rows.len()) };
     Refusal::of(number, &[0; 4]).map_or(Ok(()), Err)
 }
 
-/// The production that the first k tokens mean, in a stream whose own k is `stream`.
+/// The production that the first k tokens mean, in a stream whose own k is `stream`. Refuses by 1, 2, 3, 9, 10, then 11
+/// or 12.
 #[rustfmt::skip]
 pub fn predict(mode: Mode, t: Lent, stream: usize, tokens: &[u16]) -> Result<Predicted, Refusal> {
     asked(|answer| unsafe {
@@ -145,7 +164,7 @@ pub fn predict(mode: Mode, t: Lent, stream: usize, tokens: &[u16]) -> Result<Pre
 
 /// The answer for each of `count` windows of k tokens, one after the other: the production, or minus the number of its
 /// refusal. It is what so many calls of [`predict`] would say; the table is checked once. The count of answers, or the
-/// refusal of the whole: 1 also for over [`WINDOWS`] windows, other tokens than `count` times k, or a short `out`.
+/// refusal of all by 1 (also over [`WINDOWS`] windows, other tokens than `count` times k, a short `out`), 2, 3, 9.
 ///
 /// ```
 /// use lookahead::lent::{self, Lent};
@@ -178,6 +197,7 @@ fn predicted(values: [u64; 4]) -> Predicted {
 }
 
 /// The count of tokens that have a row one after the other, and the rows that leave the state where the next has none.
+/// Refuses by 1, 2, 3.
 #[rustfmt::skip]
 pub fn explain<'a>(t: Lent<'a>, tokens: &[u16]) -> Result<(usize, &'a [i32]), Refusal> {
     let matched = asked(|answer| unsafe {
@@ -190,7 +210,7 @@ pub fn explain<'a>(t: Lent<'a>, tokens: &[u16]) -> Result<(usize, &'a [i32]), Re
     Ok((matched as usize, &t.rows[start..start + count]))
 }
 
-/// A table from its text.
+/// A table from its text. Refuses by 1 for the output, 13, 1 for over 4,096 rows, 2, 3.
 #[rustfmt::skip]
 pub fn text_in(text: &[u8], out: &mut [i32]) -> Result<Made, Refusal> {
     asked(|answer| unsafe {
@@ -198,7 +218,7 @@ pub fn text_in(text: &[u8], out: &mut [i32]) -> Result<Made, Refusal> {
     }).map(Made::of)
 }
 
-/// A table's text; its length.
+/// A table's text; the answer is its length. Refuses by 1, 2, 3.
 #[rustfmt::skip]
 pub fn text_out(t: Lent, out: &mut [u8]) -> Result<usize, Refusal> {
     asked(|answer| unsafe {

@@ -1,7 +1,7 @@
 //! Lookahead tables: built from string lists, united, shrunk, asked for predictions and explanations, written as text.
 //!
 //! The work is done by the proved calls of the static library that `rt staticlib exports` writes; this crate gives them
-//! Rust's own manner. Refusals are those of document 01.
+//! Rust's own manner. Refusals are those of document 01, and stand at each call in the order in which they are tried.
 //!
 //! - [`Table`] holds its rows;
 //! - [`lent`] has the calls over lent slices, which allocate nothing;
@@ -18,6 +18,8 @@
 //! assert_eq!((1, vec![6]), (matched, expected));
 //! # Ok::<(), lookahead::Refusal>(())
 //! ```
+
+#![warn(missing_docs)]
 
 pub mod lent;
 mod mode;

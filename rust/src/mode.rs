@@ -11,6 +11,7 @@ pub enum Mode {
 
 impl Mode {
     /// Its number at the boundary.
+    #[must_use]
     pub fn number(self) -> u32 {
         match self {
             Mode::Archive => 0,

@@ -3,9 +3,13 @@
 /// One row: at state `from`, token `terminal` leads to state `to`, which accepts `production` or nothing.
 #[derive(Debug, Clone, Copy, PartialEq, Eq, Hash)]
 pub struct Row {
+    /// The state that the row leaves.
     pub from: u16,
+    /// The token that it is for.
     pub terminal: u16,
+    /// The state that it enters.
     pub to: u16,
+    /// What that state accepts.
     pub production: Option<u16>,
 }
 
@@ -16,6 +20,7 @@ impl Row {
     /// let row = lookahead::Row { from: 0, terminal: 5, to: 1, production: None };
     /// assert_eq!([0, 5, 1, -1], row.numbers());
     /// ```
+    #[must_use]
     pub fn numbers(self) -> [i32; 4] {
         let Row {
             from,
@@ -63,21 +68,25 @@ pub struct Rows<'a>(pub(crate) &'a [i32]);
 
 impl<'a> Rows<'a> {
     /// The numbers themselves, four a row.
+    #[must_use]
     pub fn numbers(self) -> &'a [i32] {
         self.0
     }
 
     /// The count of rows.
+    #[must_use]
     pub fn len(self) -> usize {
         self.0.len() / 4
     }
 
     /// Whether there is no row.
+    #[must_use]
     pub fn is_empty(self) -> bool {
         self.0.is_empty()
     }
 
     /// The row at a place.
+    #[must_use]
     pub fn get(self, place: usize) -> Option<Row> {
         self.0.chunks_exact(4).nth(place).map(Row::of)
     }

@@ -32,12 +32,14 @@ pub struct Table {
 /// What shrinking leaves. In archive mode states may stay that no row leads to, so rows do not tell the count.
 #[derive(Debug, Clone, PartialEq, Eq, Hash)]
 pub struct Shrunk {
+    /// The shrunk table.
     pub table: Table,
+    /// The count of its states.
     pub states: usize,
 }
 
 impl Table {
-    /// A table of given rows: 1, 2 or 3 if it does not pass.
+    /// A table of given rows. Refuses by 1, 2, 3.
     ///
     /// ```
     /// use lookahead::{Refusal, Row, Table};
@@ -52,14 +54,14 @@ impl Table {
         Table::from_numbers(coded(prod0), k, numbers)
     }
 
-    /// A table of numbers, four a row: 1, 2 or 3 if it does not pass.
+    /// A table of numbers, four a row. Refuses by 1, 2, 3.
     pub fn from_numbers(prod0: i32, k: usize, numbers: Vec<i32>) -> Result<Table, Refusal> {
         let rows = &numbers;
         lent::check(Lent { prod0, k, rows })?;
         Ok(Table { prod0, k, numbers })
     }
 
-    /// The tree of a list of strings under one production: 1, 2, 14.
+    /// The tree of a list of strings under one production. Refuses by 1, 2, 14.
     ///
     /// ```
     /// use lookahead::{Refusal, Table};
@@ -76,8 +78,11 @@ impl Table {
         Ok(table)
     }
 
-    /// Several lists built, united one after the other and shrunk, all in intake mode: no list at all is 1, then what
-    /// the first step refuses that refuses. The order of the lists changes no prediction.
+    /// Several lists built, united one after the other and shrunk, all in intake mode. The order of the lists changes
+    /// no prediction. A list without strings makes state 0 accept, in both modes.
+    ///
+    /// No list at all is 1; then the refusal of the first step that refuses: 1, 2 or 14 of a list, 8 or 14 of uniting
+    /// it.
     ///
     /// ```
     /// use lookahead::{Mode, Refusal, Table};
@@ -99,7 +104,7 @@ impl Table {
         Ok(Shrunk { table, states })
     }
 
-    /// This tree and another as one: 4 to 7 of this, 4 to 7 of the other, then 8, 14.
+    /// This tree and another as one. Refuses by 4 to 7 of this, 4 to 7 of the other, 8, 14.
     ///
     /// ```
     /// use lookahead::{Mode, Refusal, Table};
@@ -113,7 +118,7 @@ impl Table {
         Ok(table)
     }
 
-    /// A ruled table with states that are alike made one: 4 to 6.
+    /// A ruled table with states that are alike made one. Refuses by 4 to 6.
     ///
     /// ```
     /// use lookahead::{Mode, Refusal, Table};
@@ -129,14 +134,15 @@ impl Table {
         Ok(Shrunk { table, states })
     }
 
-    /// The production that the first k tokens mean, in a stream whose own k is `stream`: 9, 10, then 11 or 12.
+    /// The production that the first k tokens mean, in a stream whose own k is `stream`. Refuses by 9, 10, then 11 or
+    /// 12.
     pub fn predict(&self, mode: Mode, stream: usize, tokens: &[u16]) -> Result<Predicted, Refusal> {
         lent::predict(mode, self.lent(), stream, tokens)
     }
 
-    /// What [`Table::predict`] says of each of `count` windows of k tokens that stand one after the other, but for the rows
-    /// entered: for many windows in one go, since a call checks its table. 1 for over [`lent::WINDOWS`] windows or other
-    /// tokens than `count` times k, 9 for the whole; then for each window 11 or 12.
+    /// What [`Table::predict`] says of each of `count` windows of k tokens that stand one after the other, but for the
+    /// rows entered: for many windows in one go, since a call checks its table. Refuses the whole by 1 for over
+    /// [`lent::WINDOWS`] windows or other tokens than `count` times k, and by 9; then each window by 11 or 12.
     ///
     /// ```
     /// use lookahead::{Mode, Refusal, Table};
@@ -171,13 +177,15 @@ impl Table {
     /// assert_eq!(Some(6), rows.get(0).map(|row| row.terminal));
     /// # Ok::<(), lookahead::Refusal>(())
     /// ```
+    #[must_use]
     pub fn explain(&self, tokens: &[u16]) -> (usize, Rows<'_>) {
+        // By its contract explain refuses by 1, 2 and 3 alone, and this table has passed them.
         let said = lent::explain(self.lent(), tokens);
         let (matched, rows) = said.expect("a table that passed 1, 2 and 3 is explained");
         (matched, Rows(rows))
     }
 
-    /// The table of a text: 13, 1, 2, 3. `parse` does the same.
+    /// The table of a text; `parse` does the same. Refuses by 13, 1 for over 4,096 rows, 2, 3.
     ///
     /// ```
     /// use lookahead::{Refusal, Table};
@@ -198,7 +206,9 @@ impl Table {
     /// assert_eq!(table.to_text(), table.to_string());
     /// # Ok::<(), lookahead::Refusal>(())
     /// ```
+    #[must_use]
     pub fn to_text(&self) -> String {
+        // By its contract text out refuses by 1, 2 and 3 alone: the room is enough, and this table has passed them.
         let mut bytes = vec![0; TEXT_ROOM];
         let said = lent::text_out(self.lent(), &mut bytes);
         bytes.truncate(said.expect("a table that passed 1, 2 and 3 is written"));
@@ -206,21 +216,25 @@ impl Table {
     }
 
     /// What state 0 accepts.
+    #[must_use]
     pub fn prod0(&self) -> Option<u16> {
         decoded(self.prod0)
     }
 
     /// How many tokens a prediction needs.
+    #[must_use]
     pub fn k(&self) -> usize {
         self.k
     }
 
     /// The rows; [`Rows::numbers`] has them as they are held.
+    #[must_use]
     pub fn rows(&self) -> Rows<'_> {
         Rows(&self.numbers)
     }
 
     /// The table as it is lent.
+    #[must_use]
     pub fn lent(&self) -> Lent<'_> {
         Lent {
             prod0: self.prod0,
