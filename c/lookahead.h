@@ -2,9 +2,10 @@
  *
  * A table is prod0, k and rows of four numbers (from, terminal, to, production of to), production -1 for none.
  * A slice is a pointer and a count of elements; the pointer is not NULL, even if the count is 0. Outputs and answers
- * overlap nothing else. A call returns 0 or the number of its refusal, and writes all four values of `answer`; those
- * that are not named below are 0. On acceptance the result stands at the front of `out`, and what follows it is as
- * before; on refusal `out` is as before. */
+ * overlap nothing else. Each call but `lookahead_stretch` returns 0 or the number of its refusal; each but
+ * `lookahead_check` writes all four values of `answer`, and those that are not named below are 0. On acceptance the
+ * result stands at the front of `out`, and what follows it is as before; on refusal `out` is as before.
+ * Nothing is kept between calls; docs/SPEED.md has the stack that each call takes, for intake some 120 KiB. */
 #ifndef LOOKAHEAD_H
 #define LOOKAHEAD_H
 
@@ -19,12 +20,13 @@ extern "C" {
 #define LOOKAHEAD_TEXT_ROOM 262144 /* bytes that an output for text has at least */
 #define LOOKAHEAD_WINDOWS 4096     /* windows that a batch has at most */
 
+/* The mode: 0 is archive, any other number intake. */
 #define LOOKAHEAD_ARCHIVE 0u /* as the Rust of parol did, faults included */
 #define LOOKAHEAD_INTAKE 1u  /* by the string lists alone */
 
 enum lookahead_refusal {
     LOOKAHEAD_ACCEPTED = 0,
-    LOOKAHEAD_LENGTH = 1,   /* a slice, a list or a sum of lengths is not as asked */
+    LOOKAHEAD_LENGTH = 1,   /* a wrong length or sum of lengths, too little room, too many strings, rows or windows */
     LOOKAHEAD_RANGE = 2,    /* a number outside its bounds */
     LOOKAHEAD_ORDER = 3,    /* rows not strictly rising by (from, terminal) */
     LOOKAHEAD_SHAPE = 4,    /* a row with to not above from */
@@ -55,8 +57,10 @@ size_t lookahead_unite(uint32_t mode, int32_t prod0a, size_t ka, const int32_t *
 size_t lookahead_shrink(uint32_t mode, int32_t prod0, size_t k, const int32_t *rows, size_t rows_len, int32_t *out,
                         size_t out_len, uint64_t answer[4]);
 
-/* Intake: list i has counts[i] strings under productions[i]; all built, united in turn and shrunk in intake mode.
- * Answer as build's. Refuses by 1, then as the first step that refuses. */
+/* Intake: list i has counts[i] strings under productions[i], all lengths and all tokens one after the other; the lists
+ * built, united in turn and shrunk in intake mode. A list without strings makes state 0 accept, in both modes.
+ * Answer as build's. Refuses by 1 (no list, other counts than lists, sums that do not fit, a short `out`), then as its
+ * first step that refuses: 1, 2, 8, 14. */
 size_t lookahead_intake(const int32_t *productions, size_t productions_len, const size_t *counts, size_t counts_len,
                         const size_t *lengths, size_t lengths_len, const uint16_t *tokens, size_t tokens_len,
                         int32_t *out, size_t out_len, uint64_t answer[4]);
