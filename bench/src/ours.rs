@@ -10,7 +10,8 @@ fn asked(call: impl FnOnce(*mut u64) -> usize) -> Answer {
     (call(answer.as_mut_ptr()), answer)
 }
 
-// SAFETY of all calls below: each reads the lent slices and writes its output slice and the four numbers of the answer.
+// SAFETY of all calls below: each pointer and length is a live slice's; `out` and `answer` are borrowed alone; the
+// library keeps none of them.
 
 pub fn build(production: i32, tokens: &[u16], lengths: &[usize], out: &mut [i32]) -> Answer {
     asked(|answer| unsafe {

@@ -48,6 +48,7 @@ impl Desk {
         let (asked, read) = agree::build(production, lengths, tokens, room);
         let (mut n, mut t) = (Held::new(lengths), Held::new(tokens));
         let ((ns, nl), (ts, tl)) = (n.lent(), t.lent());
+        // SAFETY: `n` and `t` live on; `out` and `answer` are lent for this call alone.
         self.made(&made(read.clone()), room, &input, |out, len, answer| unsafe {
             raw::lookahead_build(production, ts, tl, ns, nl, out, len, answer)
         });
@@ -64,6 +65,7 @@ impl Desk {
         let (mut f, mut s) = (Held::new(a.rows), Held::new(b.rows));
         let ((fs, fl), (ss, sl)) = (f.lent(), s.lent());
         let m = number(mode, a.rows.len() / 4 + b.rows.len());
+        // SAFETY: `f` and `s` live on; `out` and `answer` are lent for this call alone.
         self.made(&made(read.clone()), room, &input, |out, len, answer| unsafe {
             raw::lookahead_unite(m, a.prod0, a.k, fs, fl, b.prod0, b.k, ss, sl, out, len, answer)
         });
@@ -80,6 +82,7 @@ impl Desk {
         let mut r = Held::new(t.rows);
         let (rs, rl) = r.lent();
         let m = number(mode, t.rows.len() / 4);
+        // SAFETY: `r` lives on; `out` and `answer` are lent for this call alone.
         self.made(&made(read.clone()), room, &input, |out, len, answer| unsafe {
             raw::lookahead_shrink(m, t.prod0, t.k, rs, rl, out, len, answer)
         });
@@ -95,6 +98,7 @@ impl Desk {
         let (mut p, mut c) = (Held::new(&lists.productions), Held::new(&lists.counts));
         let (mut n, mut t) = (Held::new(&lists.lengths), Held::new(&lists.tokens));
         let ((ps, pl), (cs, cl), (ns, nl), (ts, tl)) = (p.lent(), c.lent(), n.lent(), t.lent());
+        // SAFETY: `p`, `c`, `n` and `t` live on; `out` and `answer` are lent for this call alone.
         self.made(&made(read.clone()), room, &input, |out, len, answer| unsafe {
             raw::lookahead_intake(ps, pl, cs, cl, ns, nl, ts, tl, out, len, answer)
         });
@@ -111,6 +115,7 @@ impl Desk {
         let read = reading::text_in(text, room);
         let mut b = Held::new(text);
         let (bs, bl) = b.lent();
+        // SAFETY: `b` lives on; `out` and `answer` are lent for this call alone.
         self.made(&heard(read.clone()), room, &input, |out, len, answer| unsafe {
             raw::lookahead_text_in(bs, bl, out, len, answer)
         });
@@ -126,6 +131,7 @@ impl Desk {
         let mut r = Held::new(t.rows);
         let (rs, rl) = r.lent();
         let fault = self.fault.map(|f| (f, (|n| n ^ 1) as Change<u8>));
+        // SAFETY: `r` lives on; `out` and `answer` are lent for this call alone.
         with_output(&mut self.bytes, room, fault, &expected, &input, |out, len, answer| unsafe {
             raw::lookahead_text_out(t.prod0, t.k, rs, rl, out, len, answer)
         });
@@ -150,6 +156,7 @@ impl Desk {
         let read = reading::explain(table, &[]).matched;
         let expected = read.err().map_or(0, |refusal| refusal.number() as usize);
         let (rs, rl) = rows.lent();
+        // SAFETY: `rows` lives on, and nothing is written.
         let mut said = unsafe { raw::lookahead_check(table.prod0, table.k, rs, rl) };
         if self.fault == Some(Fault::Number) {
             said ^= 1;
@@ -175,6 +182,7 @@ impl Desk {
         });
         let mut held = Held::new(tokens);
         let ((rs, rl), (ts, tl)) = (w.rows.lent(), held.lent());
+        // SAFETY: `w.rows` and `held` live on; `answer` is lent for this call alone.
         self.plain(&expected, &input, |answer| unsafe {
             raw::lookahead_predict(m, t.prod0, t.k, rs, rl, stream, ts, tl, answer)
         });
@@ -193,6 +201,7 @@ impl Desk {
         let expected = Expected::of(read, |said| ([said.len() as u64, 0, 0, 0], said));
         let mut held = Held::new(tokens);
         let ((rs, rl), (ts, tl)) = (w.rows.lent(), held.lent());
+        // SAFETY: `w.rows` and `held` live on; `out` and `answer` are lent for this call alone.
         self.made(&expected, room, &input, |out, len, answer| unsafe {
             raw::lookahead_batch(m, t.prod0, t.k, rs, rl, stream, count, ts, tl, out, len, answer)
         });
@@ -209,10 +218,12 @@ impl Desk {
         let mut held = Held::new(tokens);
         let ((rs, rl), (ts, tl)) = (w.rows.lent(), held.lent());
         let matched = Expected::of(read.matched, |n| ([n as u64, 0, 0, 0], Vec::new()));
+        // SAFETY: `w.rows` and `held` live on; `answer` is lent for this call alone.
         self.plain(&matched, &input, |answer| unsafe {
             raw::lookahead_explain(t.prod0, t.k, rs, rl, ts, tl, answer)
         });
         let stretch = Expected { number: 0, values: [read.start as u64, read.count as u64, 0, 0], front: Vec::new() };
+        // SAFETY: as for the first call.
         self.plain(&stretch, &("stretch", input), |answer| unsafe {
             raw::lookahead_stretch(t.prod0, t.k, rs, rl, ts, tl, answer);
             0

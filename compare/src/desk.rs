@@ -39,7 +39,7 @@ impl<'a, T: Copy + PartialEq + Debug> Held<'a, T> {
         Held { now, before }
     }
 
-    /// The pointer and the length.
+    /// The pointer and the length, good while this lives.
     pub fn lent(&mut self) -> (*const T, usize) {
         (self.now.as_mut_ptr(), self.now.len())
     }
@@ -81,7 +81,7 @@ impl Desk {
         }
     }
 
-    /// A call without output.
+    /// A call without output; what it gets is good for four values.
     pub fn plain(
         &mut self,
         expected: &Expected<i32>,
@@ -104,7 +104,8 @@ impl Desk {
     }
 }
 
-/// A call with an output of `room` elements: the number, the values, the front, and all that follows.
+/// A call with an output of `room` elements: the number, the values, the front, and all that follows. What the call
+/// gets is good for `room` elements and for four values, and nothing else holds it.
 pub fn with_output<T: Copy + PartialEq + Debug>(
     output: &mut Output<T>,
     room: usize,
@@ -113,6 +114,7 @@ pub fn with_output<T: Copy + PartialEq + Debug>(
     input: &impl Debug,
     call: impl FnOnce(*mut T, usize, *mut u64) -> usize,
 ) {
+    assert!(room + GUARD <= output.now.len(), "no room for {input:?}");
     let mut answer = [UNWRITTEN; 4];
     let mut number = call(output.now.as_mut_ptr(), room, answer.as_mut_ptr());
     let front = expected.front.len();
