@@ -7,6 +7,7 @@ use Prim.Native.Nat.{ℕ}
 use lib.Dec.{eqb}
 use lib.ListN.{getD}
 use lib.IntN.{ℤ}
+use denote.Ref.{RefT}
 use Rattle.paper.specs.declared.Refusal.{Refusal}
 use Rattle.paper.specs.declared.Refusal.the-variants as refusal
 use Rattle.paper.specs.declared.Making.{Making}
@@ -20,6 +21,7 @@ use Rattle.paper.specs.declared.Reading.the-variants as reading
 use Rattle.paper.specs.declared.Writing.{Writing}
 use Rattle.paper.specs.declared.Writing.the-variants as writing
 use Rattle.paper.specs.Rows.{Table}
+use Rattle.paper.specs.Explain.{Stretch, PartOf}
 use Rattle.paper.specs.Answers.{
   Ruling,
   accept,
@@ -148,3 +150,9 @@ pub writes-one : {E : Type 0} (ruling : Ruling (List E)) (old : List E) (a b : W
     → Writes ruling a old new → Writes ruling b old new′ → (a ≡ b) × (new ≡ new′)
 writes-one ruling old a b new new′ m m′ =
     (one-writing a b (m .says ∙ sym (m′ .says)), m .holds ∙ sym (m′ .holds))
+
+-- explain's returned part: its numbers, and where it lies
+pub part-one : (slice a b : RefT (List ℤ)) (s : Stretch) → PartOf slice a s → PartOf slice b s
+    → (a .now ≡ b .now) × (a .ptr ≡ b .ptr)
+part-one slice a b s p q =
+    (p .holds ∙ sym (q .holds), λ i. ((p .block ∙ sym (q .block)) i, (p .offset ∙ sym (q .offset)) i))
