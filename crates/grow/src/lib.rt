@@ -67,7 +67,7 @@ pub fn give(buf: &mut [i32], lo: usize, n: usize, i: usize, code: usize)
 }
 
 // The numbers of src at the front of out.
-pub fn copy_front(src: &[i32], out: &mut [i32])
+fn copy_front(src: &[i32], out: &mut [i32])
     requires { ⌜ length (now src) ≤ length (now out) ⌝ }
     ensures { λ _. ⌜ now (out .exit) ≡ front (now (src .entry)) (now (out .entry)) ⌝ }
 {

@@ -128,7 +128,7 @@ pub fn heard(said: Reading, answer: &mut [u64; 4]) -> usize
     }
 }
 
-// A text that was written: its length.
+// What was written: the count of bytes or of answers.
 pub fn wrote(said: Writing, answer: &mut [u64; 4]) -> usize
     ensures { λ r. ⌜ Hands (wrote said) of-count r (now (answer .exit)) ⌝ }
 {

@@ -1,1 +1,1 @@
-// Theorems only: the intake desk's one call, and demand 3 of it.
+// The definition of the intake desk's one call, and demand 3 of it: theorems only.

@@ -35,7 +35,7 @@ pub enum Refusal {
     Full,
 }
 
-// Build, unite and shrink: of a table whose rows stand at the front of the output.
+// Build, unite, shrink and intake's call: of a table whose rows stand at the front of the output.
 pub enum Making {
     Made {
         prod0: i32,

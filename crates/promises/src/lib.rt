@@ -1,1 +1,1 @@
-// Theorems only: demand 3.
+// Theorems only: demand 3, identical results, untouched slices.

@@ -45,7 +45,7 @@ fn row_fits(rows: &[i32], i: usize) -> bool
 }
 
 // All rows' numbers are within their bounds.
-pub fn rows_fit(rows: &[i32]) -> bool
+fn rows_fit(rows: &[i32]) -> bool
     ensures { λ r. ⌜ r ≡ every row-fits (rows-in (now (rows .entry))) ⌝ }
 {
     let n = rows.len() / 4;
