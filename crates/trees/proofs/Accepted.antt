@@ -94,11 +94,17 @@ trees-passed a b r m e =
       f₇,
     )
 
-pub unite-sound : (mode : Mode) (p : ℤ) (k : ℕ) (ns : List ℤ) (q : ℤ) (l : ℕ) (ms : List ℤ) (room : ℕ) (m : Made) →
-    unite mode p k ns q l ms room ≡ accept m → Sound (m .table)
+pub unite-passed : (mode : Mode) (p : ℤ) (k : ℕ) (ns : List ℤ) (q : ℤ) (l : ℕ) (ms : List ℤ) (room : ℕ) (m : Made) →
+    unite mode p k ns q l ms room ≡ accept m →
+    Sound (table p k ns) × Sound (table q l ms) × (united mode (table p k ns) (table q l ms) ≡ accept m)
 unfolding unite unite-tables
-unite-sound mode p k ns q l ms room m e =
+unite-passed mode p k ns q l ms room m e =
     let lengths : Bool = row-slice ns || (row-slice ms || little-room room) in
     let (_, e₁) = check-passed lengths 1 _ m e in
-    let (a, b, e₂) = trees-passed (table p k ns) (table q l ms) (united mode (table p k ns) (table q l ms)) m e₁ in
+    trees-passed (table p k ns) (table q l ms) (united mode (table p k ns) (table q l ms)) m e₁
+
+pub unite-sound : (mode : Mode) (p : ℤ) (k : ℕ) (ns : List ℤ) (q : ℤ) (l : ℕ) (ms : List ℤ) (room : ℕ) (m : Made) →
+    unite mode p k ns q l ms room ≡ accept m → Sound (m .table)
+unite-sound mode p k ns q l ms room m e =
+    let (a, b, e₂) = unite-passed mode p k ns q l ms room m e in
     united-sound mode (table p k ns) (table q l ms) a b m e₂

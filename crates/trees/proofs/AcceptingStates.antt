@@ -8,12 +8,13 @@ use mathlib.Core.List.{Memᴰ·append-left, Memᴰ·append-right, List·Memᴰ·
 use Prim.Native.Nat.{ℕ, suc, _≤_}
 use native.Mathlib.Omega.{arith}
 use lib.ListN.{length, length-append}
+use lib.IntN.{ℤ}
 use Rattle.laws.proofs.Members.{In, here, there, nowhere, where-in}
 use Rattle.laws.proofs.Tests.{never}
 use Rattle.paper.specs.declared.Mode.the-variants.{Intake}
-use Rattle.paper.specs.Rows.{Row, Table, find}
+use Rattle.paper.specs.Rows.{Row, Table, find, table}
 use Rattle.paper.specs.Answers.{Ruling, accept, Made}
-use Rattle.paper.specs.Unite.{united}
+use Rattle.paper.specs.Unite.{united, unite}
 use Rattle.trees.specs.Reach.{Seat, sit, said, view}
 use Rattle.trees.specs.Views.{seen}
 use Rattle.trees.specs.Trees.{Treed}
@@ -27,9 +28,10 @@ use Rattle.trees.proofs.Words.{join-claim, claim-left, claim-right}
 use Rattle.trees.proofs.Tree.{Tree, up, to-le, same-to}
 use Rattle.trees.proofs.Checked.{passes-tree}
 use Rattle.trees.proofs.Took.{lead}
-use Rattle.trees.proofs.Counting.{into-le}
+use Rattle.trees.proofs.Counting.{into-le, images}
 use Rattle.trees.proofs.States.{Led, path-to, same-state, one-string}
 use Rattle.trees.proofs.UniteSound.{united-views}
+use Rattle.trees.proofs.Accepted.{unite-passed}
 
 -- ---- the accepting states, listed
 if-some : Option ℕ → ℕ → List ℕ
@@ -183,55 +185,109 @@ module _ (t : Table) (tr : Tree (t .rows)) where
   seated none q e = absurd (never e)
   seated (some x) q e = (x, refl, cc)
 
-  pub accepting-count : (cs : List (List ℕ)) → Claims (Claimed (view t)) cs → accepting-states t ≡ length cs
+  -- a claimed string leads to an accepting state,
+  state-of : (σ : List ℕ) → Claimed (view t) σ → (i : ℕ) × Led t i (reverse σ) × In i (all-states t)
+  unfolding Led word
+  state-of σ claim =
+      let (q, e) = claim in
+      let (x, e₁, e₂) = seated (lead t (reverse σ)) q (sym (view-word t σ) ∙ e) in
+      (x .state, (x, e₁, refl), listed (reverse σ) x q e₁ e₂)
+
+  -- some string leads to each,
+  spelled : (i : ℕ) → In i (all-states t) → (σ : List ℕ) × Led t i (reverse σ)
+  spelled i j =
+      let (v, led) = path-to t tr (suc i) i (omega arith) (bounded i j) in
+      (reverse v, subst (Led t i) (sym (reverse-reverse v)) led)
+
+  -- and is claimed
+  claimed-at : (i : ℕ) (σ : List ℕ) → In i (all-states t) → Led t i (reverse σ) → Claimed (view t) σ
   unfolding Led word said
+  claimed-at i σ j led =
+      let (x, e₁, e₂) = led in
+      let (q, h) = accepting (reverse σ) x e₁ (subst (λ (n : ℕ). In n (all-states t)) (sym e₂) j) in
+      (q, view-word t σ ∙ ap said e₁ ∙ ap some h)
+
+  pub accepting-count : (cs : List (List ℕ)) → Claims (Claimed (view t)) cs → accepting-states t ≡ length cs
   accepting-count cs c =
-      let down = into-le (λ σ i. Led t i (reverse σ)) (one-string t tr) cs (all-states t) (c .once) forth in
+      let down = into-le (λ σ i. Led t i (reverse σ)) (one-string t tr) cs (all-states t) (c .once)
+      (λ σ j. state-of σ (c .sound σ j)) in
       let up = into-le (λ i σ. Led t i (reverse σ)) (λ i j σ a b. same-state t tr (reverse σ) i j a b)
       (all-states t) cs apart-all back in
       omega (arith, down, up, length-all t)
     where
-      forth : (σ : List ℕ) → In σ cs → (i : ℕ) × Led t i (reverse σ) × In i (all-states t)
-      forth σ j =
-          let (q, e) = c .sound σ j in
-          let (x, e₁, e₂) = seated (lead t (reverse σ)) q (sym (view-word t σ) ∙ e) in
-          (x .state, (x, e₁, refl), listed (reverse σ) x q e₁ e₂)
-
       back : (i : ℕ) → In i (all-states t) → (σ : List ℕ) × Led t i (reverse σ) × In σ cs
-      back i j =
-          let (v, led) = path-to t tr (suc i) i (omega arith) (bounded i j) in
-          let (x, e₁, e₂) = led in
-          let (q, h) = accepting v x e₁ (subst (λ (n : ℕ). In n (all-states t)) (sym e₂) j) in
-          let led-back : Led t i (reverse (reverse v)) = (x, ap (lead t) (reverse-reverse v) ∙ e₁, e₂) in
-          let said-so : view t (reverse v) ≡ some (some q) =
-          view-word t (reverse v) ∙ ap (word t) (reverse-reverse v) ∙ ap said e₁ ∙ ap some h in
-          (reverse v, led-back, c .complete (reverse v) (q, said-so))
+      back i j = let (σ, led) = spelled i j in (σ, led, c .complete σ (claimed-at i σ j led))
+
+  -- the claimed strings can be listed
+  pub claims-listed : (cs : List (List ℕ)) × Claims (Claimed (view t)) cs
+  claims-listed =
+      let (cs, im) = images (λ i σ. Led t i (reverse σ)) (λ i j σ a b. same-state t tr (reverse σ) i j a b)
+      (all-states t) apart-all spelled in (
+        cs,
+        record {
+          once = im .once;
+          sound = λ σ i. let (n, j, led) = im .from σ i in claimed-at n σ j led;
+          complete = λ σ k.
+              let (i, led, j) = state-of σ k in
+              let (τ, m, here-too) = im .to i j in
+              subst (λ (z : List ℕ). In z cs) (one-string t tr τ σ i here-too led) m;
+        },
+      )
 
 -- ---- of an intake union
-pub accepting-union : (A B : Table) → Treed A → Treed B → (m : Made) → united Intake A B ≡ accept m →
-    (cs : List (List ℕ)) → Claims (λ σ. Claimed (view A) σ ⊎ Claimed (view B) σ) cs →
-    accepting-states (m .table) ≡ length cs
-unfolding seen
-accepting-union A B a b m e cs c = go (united-views Intake A B a b) e
-  where
-    counts : (T : Table) → Union Intake A B T → accepting-states T ≡ length cs
-    counts T u = accepting-count T (passes-tree T (u .treed)) cs (record {
-      once = c .once;
-      sound = λ σ i. ⊎-elim
-          (λ k.
-          let both = u .agree σ (k .0) in
-          (k .0, u .views σ ∙ claim-left (view A σ) (view B σ) (k .0) (k .1) (λ q h. both q (k .1) h)))
-          (λ k. (k .0, u .views σ ∙ claim-right (view A σ) (view B σ) (k .0) (k .1)))
-          (c .sound σ i);
-      complete = λ σ k. c .complete σ (⊎-elim
-          (λ h. inl (k .0, h))
-          (λ h. inr (k .0, h))
-          (join-claim (view A σ) (view B σ) (k .0) (sym (u .views σ) ∙ k .1)));
-    })
+abbrev Either : Table → Table → List ℕ → Type 0
+Either A B σ = Claimed (view A) σ ⊎ Claimed (view B) σ
 
-    go : {g : Ruling Made} → Unites Intake A B g → g ≡ accept m → accepting-states (m .table) ≡ length cs
+module _ (A B T : Table) (u : Union Intake A B T) where
+  into-union : (σ : List ℕ) → Either A B σ → Claimed (view T) σ
+  unfolding seen
+  into-union σ = ⊎-elim
+      (λ k.
+      let both = u .agree σ (k .0) in
+      (k .0, u .views σ ∙ claim-left (view A σ) (view B σ) (k .0) (k .1) (λ q h. both q (k .1) h)))
+      (λ k. (k .0, u .views σ ∙ claim-right (view A σ) (view B σ) (k .0) (k .1)))
+
+  out-of-union : (σ : List ℕ) → Claimed (view T) σ → Either A B σ
+  unfolding seen
+  out-of-union σ k = ⊎-elim
+      (λ h. inl (k .0, h))
+      (λ h. inr (k .0, h))
+      (join-claim (view A σ) (view B σ) (k .0) (sym (u .views σ) ∙ k .1))
+
+union-of : (A B : Table) → Treed A → Treed B → (m : Made) → united Intake A B ≡ accept m → Union Intake A B (m .table)
+union-of A B a b m e = go (united-views Intake A B a b) e
+  where
+    go : {g : Ruling Made} → Unites Intake A B g → g ≡ accept m → Union Intake A B (m .table)
     go (joined {T} u l) h =
         let z : record { table = T; states = suc (length (T .rows)) } ≡ m = cc in
-        rw (← z) (counts T u)
+        subst (λ (x : Made). Union Intake A B (x .table)) z u
     go (full u l) h = let z : _≡_ {A = ℕ} 0 1 = cc in absurd (omega arith)
     go (at-odds σ x y n) h = let z : _≡_ {A = ℕ} 0 1 = cc in absurd (omega arith)
+
+-- the accepting states number the distinct strings, however they are listed
+pub accepting-union : (A B : Table) → Treed A → Treed B → (m : Made) → united Intake A B ≡ accept m →
+    (cs : List (List ℕ)) → Claims (Either A B) cs → accepting-states (m .table) ≡ length cs
+accepting-union A B a b m e cs c =
+    let u = union-of A B a b m e in
+    accepting-count (m .table) (passes-tree (m .table) (u .treed)) cs (record {
+      once = c .once;
+      sound = λ σ i. into-union A B (m .table) u σ (c .sound σ i);
+      complete = λ σ k. c .complete σ (out-of-union A B (m .table) u σ k);
+    })
+
+-- and of the call: they can be listed
+pub accepting-unite : (p : ℤ) (k : ℕ) (ns : List ℤ) (q : ℤ) (l : ℕ) (ms : List ℤ) (room : ℕ) (m : Made) →
+    unite Intake p k ns q l ms room ≡ accept m →
+    (cs : List (List ℕ)) × Claims (Either (table p k ns) (table q l ms)) cs × (accepting-states (m .table) ≡ length cs)
+accepting-unite p k ns q l ms room m e =
+    let A = table p k ns in
+    let B = table q l ms in
+    let (a, b, d) = unite-passed Intake p k ns q l ms room m e in
+    let u = union-of A B (a .treed) (b .treed) m d in
+    let (cs, c) = claims-listed (m .table) (passes-tree (m .table) (u .treed)) in
+    let listed : Claims (Either A B) cs = record {
+      once = c .once;
+      sound = λ σ i. out-of-union A B (m .table) u σ (c .sound σ i);
+      complete = λ σ k. c .complete σ (into-union A B (m .table) u σ k);
+    } in
+    (cs, listed, accepting-union A B (a .treed) (b .treed) m d cs listed)

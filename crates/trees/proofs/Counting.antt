@@ -24,8 +24,42 @@ drop-one {A} x (a ∷ l) (List·Memᴰ·tail i) = go (drop-one x l i)
     go (dropped l′ e h) = dropped (a ∷ l′) (ap suc e)
         (λ y j n. ⊎-elim (λ k. List·Memᴰ·head k) (λ j′. there (h y j′ n)) (where-in j))
 
+-- What a list becomes by the relation R.
+pub record Images {A B : Type 0} (R : A → B → Type 0) (xs : List A) (ys : List B) : Type 0 where
+  pub once : Apart ys
+  pub from : (b : B) → In b ys → (x : A) × In x xs × R x b
+  pub to : (x : A) → In x xs → (b : B) × In b ys × R x b
+
 -- One to one by the relation R.
 module _ {A B : Type 0} (R : A → B → Type 0) (one : (x y : A) (b : B) → R x b → R y b → x ≡ y) where
+  pub images : (xs : List A) → Apart xs → ((x : A) → In x xs → (b : B) × R x b) → (ys : List B) × Images R xs ys
+  images [] a f = (
+    [],
+    record {
+      once = apart-nil;
+      from = λ b i. absurd (nowhere i);
+      to = λ x i. absurd (nowhere i);
+    },
+  )
+  images (x ∷ xs) (apart-cons n a) f =
+      let (b, r) = f x here in
+      let (ys, im) = images xs a (λ y i. f y (there i)) in (
+        b ∷ ys,
+        record {
+          once = apart-cons
+              (λ i. let (y, j, s) = im .from b i in n (subst (λ (z : A). In z xs) (one y x b s r) j))
+              (im .once);
+          from = λ c i. ⊎-elim
+              (λ e. (x, here, subst (λ (z : B). R x z) (sym e) r))
+              (λ j. let (y, k, s) = im .from c j in (y, there k, s))
+              (where-in i);
+          to = λ y i. ⊎-elim
+              (λ e. (b, here, subst (λ (z : A). R z b) (sym e) r))
+              (λ j. let (c, k, s) = im .to y j in (c, there k, s))
+              (where-in i);
+        },
+      )
+
   pub into-le : (xs : List A) (ys : List B) → Apart xs →
       ((x : A) → In x xs → (b : B) × R x b × In b ys) → length xs ≤ length ys
   into-le [] ys a h = omega arith
