@@ -2,6 +2,7 @@
 use paper::Explanation;
 use paper::Refusal;
 use paper::State;
+use paper::Terminal;
 use row_checks::Verdict;
 use rows::numbers;
 use search::Found;
@@ -27,31 +28,25 @@ fn walked(rows: &[i32], tokens: &[u16]) -> Stop
     requires { ⌜ Passed (now rows) ⌝ }
     ensures { λ r. ⌜ stopped r ≡ stop (rows-in (now (rows .entry))) 0 0 (now (tokens .entry)) ⌝ }
 {
-    let mut state = 0;
+    let mut state = State(0);
     let mut i = 0;
     while i < tokens.len() {
-        let found = search::find(rows, state as usize, wide(tokens[i]));
+        let found = search::find(rows, state, Terminal(tokens[i]));
         let Found::At(row) = found else {
             return Stop {
-                state: State(state),
+                state,
                 matched: i,
                 more: true,
             };
         };
-        state = numbers::to_at(rows, row) as u16;
+        state = State(numbers::to_at(rows, row) as u16);
         i += 1;
     }
     Stop {
-        state: State(state),
+        state,
         matched: i,
         more: false,
     }
-}
-
-fn wide(x: u16) -> usize
-    ensures { λ r. ⌜ (r ≡ x) × (r ≤ 65535) ⌝ }
-{
-    x as usize
 }
 
 // Explain, the first call: the count of matched tokens, or the refusal.
@@ -86,8 +81,7 @@ fn left_rows(rows: &[i32], s: Stop) -> Part
     if !s.more {
         return Part { start: n, count: 0 };
     }
-    let state = s.state;
-    let span = search::leaving(rows, state.0 as usize);
+    let span = search::leaving(rows, s.state);
     if span.count == 0 {
         return Part { start: n, count: 0 };
     }

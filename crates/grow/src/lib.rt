@@ -18,7 +18,7 @@ pub fn find(buf: &[i32], lo: usize, n: usize, s: State, t: Terminal) -> Found
     ensures { λ r. ⌜ Seeks (view (now (buf .entry)) lo) n (s .0) (t .0) r ⌝ }
 {
     let first = lo * 4;
-    search::find(&buf[first..first + n * 4], s.0 as usize, t.0 as usize)
+    search::find(&buf[first..first + n * 4], s, t)
 }
 
 // The state that row i of n leads to.

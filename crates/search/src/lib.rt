@@ -1,4 +1,6 @@
 // The row of a state and a terminal, and the stretch of a state's rows, in rows that passed 1 to 3.
+use paper::State;
+use paper::Terminal;
 use rows::numbers;
 ghost use Prim.Native.Nat.{_+_, _*_, _<_, _≤_, _/_};
 ghost use lib.ListN.{length};
@@ -68,11 +70,11 @@ fn lower(rows: &[i32], x: usize) -> usize
 }
 
 // The row of a state and a terminal.
-pub fn find(rows: &[i32], state: usize, terminal: usize) -> Found
-    requires { ⌜ Passed (now rows) × (state ≤ 65535) × (terminal ≤ 65535) ⌝ }
-    ensures { λ r. ⌜ Finds (now (rows .entry)) state terminal r ⌝ }
+pub fn find(rows: &[i32], state: State, terminal: Terminal) -> Found
+    requires { ⌜ Passed (now rows) ⌝ }
+    ensures { λ r. ⌜ Finds (now (rows .entry)) (state .0) (terminal .0) r ⌝ }
 {
-    let x = state * 65536 + terminal;
+    let x = state.0 as usize * 65536 + terminal.0 as usize;
     let i = lower(rows, x);
     if rows.len() / 4 <= i {
         return Found::Missing(i);
@@ -84,12 +86,13 @@ pub fn find(rows: &[i32], state: usize, terminal: usize) -> Found
 }
 
 // The rows of a state.
-pub fn leaving(rows: &[i32], state: usize) -> Span
-    requires { ⌜ Passed (now rows) × (state ≤ 65535) ⌝ }
-    ensures { λ r. ⌜ Leaves (now (rows .entry)) state (r .begin) (r .count) ⌝ }
+pub fn leaving(rows: &[i32], state: State) -> Span
+    requires { ⌜ Passed (now rows) ⌝ }
+    ensures { λ r. ⌜ Leaves (now (rows .entry)) (state .0) (r .begin) (r .count) ⌝ }
 {
-    let begin = lower(rows, state * 65536);
-    let end = lower(rows, (state + 1) * 65536);
+    let s = state.0 as usize;
+    let begin = lower(rows, s * 65536);
+    let end = lower(rows, (s + 1) * 65536);
     Span {
         begin,
         count: end - begin,

@@ -27,7 +27,7 @@ looked mode q (some x) = then (taken mode (x .production) q) (λ _. accept (x .t
 -- The answer states the ruling.
 abbrev pub Looks : Ruling ℕ → Look → Type 0
 Looks g (look.Clash p q) = g ≡ refuse 8 (p .0 ∷ q .0 ∷ [])
-Looks g (look.Match v) = g ≡ accept v
+Looks g (look.Match v) = g ≡ accept (v .0)
 
 -- The answer of the search for a clash.
 abbrev pub Scanned : Mode → List Row → List Row → Scan → Type 0

@@ -46,7 +46,7 @@ impl Walk {
         let state = self.state;
         let entered = self.entered;
         let last = self.last;
-        let found = search::find(rows, state.0 as usize, token.0 as usize);
+        let found = search::find(rows, state, token);
         match found {
             Found::At(i) => self.enter(rows, i),
             Found::Missing(_) => Walk {

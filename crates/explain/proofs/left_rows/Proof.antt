@@ -11,36 +11,33 @@ returns c =
     lies-at-end (s .args .rows .now) (all-matched (s .args .rows .now) (stopped (s .args .s)) (not-true _
     (c .if1 .taken)))
 
-cast-leaving : tie.Need-cast-leaving
-cast-leaving c = search needs
-
 leaving-requires : tie.Need-leaving-requires
 leaving-requires c κs = search needs
 
 returns-2 : tie.Need-returns-2
 returns-2 c =
     let v = c .before .before in
-    let i = v .before .before .before in
+    let i = v .before in
     let s = i .before .before in
     let o = not-false _ (i .if1 .left) in
     lies-at-end (s .args .rows .now) (no-rows (s .args .rows .now) (stopped (s .args .s)) o _ _
     (v .leaving .ensures) (c .if2 .taken))
 
+mul-t6 : tie.Need-mul-t6
+mul-t6 c = search needs
+
 mul-t7 : tie.Need-mul-t7
 mul-t7 c = search needs
-
-mul-t8 : tie.Need-mul-t8
-mul-t8 c = search needs
 
 returns-3 : tie.Need-returns-3
 returns-3 c =
     let e = c .before .before in
     let v = e .before .before in
-    let i = v .before .before .before in
+    let i = v .before in
     let s = i .before .before in
     let o = not-false _ (i .if1 .left) in
     lies-there (s .args .rows .now) (stopped (s .args .s)) o _ _ (v .leaving .ensures) (e .if2 .left)
 
 pub left-rows-spec : {M : Type 1} → statement M
 left-rows-spec =
-    tie.close (tie.spec returns cast-leaving leaving-requires returns-2 mul-t7 mul-t8 returns-3)
+    tie.close (tie.spec returns leaving-requires returns-2 mul-t6 mul-t7 returns-3)

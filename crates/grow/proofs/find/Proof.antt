@@ -4,7 +4,6 @@ use Prim.Native.Nat.{_*_}
 use lib.IntN.{ℤ}
 use Rattle.search.specs.Search.{Finds}
 use Rattle.grow_laws.specs.Held.{view}
-use native.Mathlib.Omega.{arith}
 use Rattle.grow_laws.proofs.Viewed.{reach, rows-part, seeks}
 use borrow.Author.Needs.{needs}
 use Rattle.grow.proofs.find.Statement.{statement}
@@ -31,24 +30,15 @@ part-find-start c = search needs
 part-find-end : tie.Need-part-find-end
 part-find-end c = reach (c .args .buf .now) (c .args .lo) (c .args .n) (c .pre .0)
 
-cast-find : tie.Need-cast-find
-cast-find c = search needs
-
-cast-find-2 : tie.Need-cast-find-2
-cast-find-2 c = search needs
-
 find-requires : tie.Need-find-requires
 find-requires c κs =
-    let s = c .before .before .before in
-    let a = s .args in (
-      rw (rows-part (a .buf .now) (a .lo * 4) (a .n * 4)) (s .pre .0 .passed),
-      omega (arith, s .pre .1),
-      omega arith,
-    )
+    let s = c .before in
+    let a = s .args in
+    rw (rows-part (a .buf .now) (a .lo * 4) (a .n * 4)) (s .pre .0 .passed)
 
 returns : tie.Need-returns
 returns c =
-    let s = c .before .before .before .before in
+    let s = c .before .before in
     let a = s .args in
     seeks (view (a .buf .now) (a .lo)) (a .n) (a .s .0) (a .t .0) (c .find .result) (s .pre .0) (s .pre .1)
     (subst (λ (ns : List ℤ). Finds ns (a .s .0) (a .t .0) (c .find .result))
@@ -65,7 +55,5 @@ find-spec =
     sub-find
     part-find-start
     part-find-end
-    cast-find
-    cast-find-2
     find-requires
     returns)

@@ -58,11 +58,11 @@ came c x e =
 from-at-requires : tie.Need-from-at-requires Inv-loop μ-loop
 from-at-requires c κs = omega arith
 
-mul-from : tie.Need-mul-from Inv-loop μ-loop
-mul-from c = omega (arith, c .from-at .ensures .is, fitting (c .before) .from)
+mul-t13 : tie.Need-mul-t13 Inv-loop μ-loop
+mul-t13 c = omega (arith, c .from-at .ensures .is, fitting (c .before) .from)
 
-element-copy-out-from : tie.Need-element-copy-out-from Inv-loop μ-loop
-element-copy-out-from c = omega (arith, c .from-at .ensures .is, fitting (c .before) .from)
+element-copy-out-t17 : tie.Need-element-copy-out-t17 Inv-loop μ-loop
+element-copy-out-t17 c = omega (arith, c .from-at .ensures .is, fitting (c .before) .from)
 
 terminal-at-requires : tie.Need-terminal-at-requires Inv-loop μ-loop
 terminal-at-requires c κs = omega arith
@@ -136,8 +136,8 @@ clash-spec =
     μ-loop
     loop-holds
     from-at-requires
-    mul-from
-    element-copy-out-from
+    mul-t13
+    element-copy-out-t17
     terminal-at-requires
     cast-t17
     code-at-requires

@@ -11,8 +11,8 @@ use Rattle.unite_scan.proofs.hit.Tie as tie
 to-at-requires : tie.Need-to-at-requires
 to-at-requires c κs = search needs
 
-cast-to : tie.Need-cast-to
-cast-to c =
+cast-t10 : tie.Need-cast-t10
+cast-t10 c =
     let s = c .before in
     omega (arith, c .to-at .ensures .is, fit-at (s .pre .0) (s .args .i) (s .pre .1) .to)
 
@@ -54,7 +54,7 @@ hit-spec =
     tie.close
     (tie.spec
     to-at-requires
-    cast-to
+    cast-t10
     code-at-requires
     taken-requires
     enum-known-met
