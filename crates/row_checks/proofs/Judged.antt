@@ -8,15 +8,12 @@ use native.Mathlib.Omega.{arith}
 use borrow.Author.Tests.{leb-true}
 use lib.Dec.{leb}
 use lib.IntN.{ℤ}
-use mir.Syntax.{w32}
-use mir.Val.{SFits, toZ, ofZ}
-use mir.Facts.{toZ-ofZ}
-use Rattle.paper.specs.Rows.{Table, table}
+use Rattle.paper.specs.Rows.{Table, rows-in, table}
 use Rattle.paper.specs.declared.Refusal.{Refusal}
 use Rattle.paper.specs.Answers.{Ruling, accept, refuse, then, number, detail}
 use Rattle.paper.specs.Checks.{first, every, row-fits, rising, production-fits, range, order, plain}
 use Rattle.rows.specs.Passed.{Passed}
-use Rattle.row_checks.specs.Verdicts.{follow, Judges}
+use Rattle.row_checks.specs.Verdicts.{follow, of-rows, Judges}
 use Rattle.row_checks.specs.declared.Verdict.{Verdict}
 use Rattle.row_checks.specs.declared.Verdict.the-variants.{Pass, Refused}
 use Rattle.rows.specs.Places.{code}
@@ -53,10 +50,11 @@ refuses {c} {cs} f m d e = record { says = rw (e, m, d) }
 pub next-check : {c : Bool × ℕ} {cs : List (Bool × ℕ)} {v : Verdict} → c .0 ≡ false → Judges cs v → Judges (c ∷ cs) v
 next-check {c} {cs} {v} e j = record { says = rw e (j .says) }
 
--- a test of a table whose prod0 was passed on
-pub range-passed : (p : ℤ) (k : ℕ) (ns : List ℤ) (b : Bool) → SFits w32 p → b ≡ range (table (toZ w32 (ofZ w32 p)) k ns)
-    → range (table p k ns) ≡ b
-range-passed p k ns b f e = sym (e ∙ ap (λ (z : ℤ). range (table z k ns)) (toZ-ofZ {w = w32} f))
+-- 2 and 3 of a table whose prod0 and k are within their bounds are those of its rows
+pub of-table : (p : ℤ) (k : ℕ) (ns : List ℤ) {v : Verdict}
+    → not (every row-fits (rows-in ns)) ≡ range (table p k ns) → Judges (of-rows ns) v → Judges (plain (table p k ns)) v
+unfolding order
+of-table p k ns e j = record { says = rw (← e) (j .says) }
 
 head-passes : (b : Bool) (n : ℕ) (r : Ruling ℕ) → _≡_ {A = Ruling ℕ} (cond b (refuse n []) r) (accept 0)
     → (b ≡ false) × (r ≡ accept 0)

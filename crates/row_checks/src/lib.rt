@@ -2,13 +2,12 @@
 use paper::Refusal;
 use rows::numbers;
 ghost use mathlib.Core.Path.{_≡_};
-ghost use mathlib.Core.Bool.{true};
 ghost use Prim.Native.Nat.{_+_, _*_, _<_};
 ghost use lib.ListN.{length};
-ghost use Rattle.paper.specs.Rows.{rows-in, table};
-ghost use Rattle.paper.specs.Checks.{row-slice, row-fits, every, range, order, shape, plain};
+ghost use Rattle.paper.specs.Rows.{table};
+ghost use Rattle.paper.specs.Checks.{row-slice, row-fits, shape, plain};
 ghost use Rattle.rows.specs.Places.{row-at, bare};
-ghost use Rattle.row_checks.specs.Verdicts.{Judges};
+ghost use Rattle.row_checks.specs.Verdicts.{of-rows, Judges};
 
 // What the checks say.
 pub enum Verdict {
@@ -44,54 +43,29 @@ fn row_fits(rows: &[i32], i: usize) -> bool
     numbers::code_at(rows, i) <= 65536
 }
 
-// All rows' numbers are within their bounds.
-fn rows_fit(rows: &[i32]) -> bool
-    ensures { λ r. ⌜ r ≡ every row-fits (rows-in (now (rows .entry))) ⌝ }
+// 2 and 3 of the rows, in one pass: 2 comes first wherever it stands.
+fn in_one_pass(rows: &[i32]) -> Verdict
+    ensures { λ r. ⌜ Judges (of-rows (now (rows .entry))) r ⌝ }
 {
     let n = rows.len() / 4;
+    let mut falls = false;
+    let mut above = 0;
     let mut i = 0;
     while i < n {
         if !row_fits(rows, i) {
-            return false;
+            return Verdict::Refused(Refusal::Range);
         }
+        let key = numbers::from_at(rows, i) * 65536 + numbers::terminal_at(rows, i);
+        if key < above {
+            falls = true;
+        }
+        above = key + 1;
         i += 1;
     }
-    true
-}
-
-// 2 RANGE.
-pub fn range(prod0: i32, k: usize, rows: &[i32]) -> bool
-    ensures { λ r. ⌜ r ≡ range (table prod0 k (now (rows .entry))) ⌝ }
-{
-    if 65536 < numbers::coded(prod0) {
-        return true;
+    if falls {
+        return Verdict::Refused(Refusal::Order);
     }
-    if 16 < k {
-        return true;
-    }
-    !rows_fit(rows)
-}
-
-// 3 ORDER, of rows within their bounds.
-pub fn order(rows: &[i32]) -> bool
-    requires { ⌜ every row-fits (rows-in (now rows)) ≡ true ⌝ }
-    ensures { λ r. ⌜ r ≡ order (bare (now (rows .entry))) ⌝ }
-{
-    let n = rows.len() / 4;
-    if n == 0 {
-        return false;
-    }
-    let mut last = numbers::key_at(rows, 0);
-    let mut i = 1;
-    while i < n {
-        let key = numbers::key_at(rows, i);
-        if key <= last {
-            return true;
-        }
-        last = key;
-        i += 1;
-    }
-    false
+    Verdict::Pass
 }
 
 // 4 SHAPE.
@@ -113,11 +87,11 @@ pub fn shape(rows: &[i32]) -> bool
 pub fn plain(prod0: i32, k: usize, rows: &[i32]) -> Verdict
     ensures { λ r. ⌜ Judges (plain (table prod0 k (now (rows .entry)))) r ⌝ }
 {
-    if range(prod0, k, rows) {
+    if 65536 < numbers::coded(prod0) {
         return Verdict::Refused(Refusal::Range);
     }
-    if order(rows) {
-        return Verdict::Refused(Refusal::Order);
+    if 16 < k {
+        return Verdict::Refused(Refusal::Range);
     }
-    Verdict::Pass
+    in_one_pass(rows)
 }

@@ -12,13 +12,17 @@ use mir.Syntax.{w32}
 use mir.Val.{SFits, toZ, ofZ}
 use mir.Facts.{toZ-ofZ}
 use Rattle.paper.specs.Rows.{table, rows-in, accepting, signed}
-use Rattle.paper.specs.Answers.{Ruling, accept, refuse, Writes}
-use Rattle.paper.specs.Checks.{every, row-fits, row-slice, production-fits, range, order}
+use Rattle.paper.specs.Answers.{Ruling, accept, refuse, number, detail, Writes}
+use Rattle.paper.specs.Checks.{every, row-fits, row-slice, production-fits, range, plain}
 use Rattle.paper.specs.Text.{text, text-out, write, head-form}
+use Rattle.paper.specs.declared.Refusal.{Refusal}
 use Rattle.paper.specs.declared.Writing.the-variants.{Wrote}
 use Rattle.laws.proofs.Every.{neither}
 use Rattle.laws.proofs.Writing as writing
-use Rattle.rows.specs.Places.{Reads, code, uncoded, bare}
+use Rattle.rows.specs.Places.{Reads, code, uncoded}
+use Rattle.row_checks.specs.Verdicts.{Judges}
+use Rattle.row_checks.specs.declared.Verdict.the-variants.{Pass, Refused}
+use Rattle.row_checks.proofs.Judged.{judged}
 use Rattle.rows.proofs.Rest.{both}
 use Rattle.rows.proofs.Fits.{code-fits}
 use Rattle.text_laws.specs.Put.{Puts}
@@ -44,18 +48,14 @@ module _ (p : ℤ) (k : ℕ) (ns : List ℤ) (room : ℕ) where
     out-room h = rw (whole, lt-ltb room 262144 h)
 
     module _ (wide : 262144 ≤ room) where
-      pub out-range : range (table p k ns) ≡ true → text-out p k ns room ≡ refuse 2 []
+      pub out-refused : (f : Refusal) → Judges (plain (table p k ns)) (Refused f)
+          → text-out p k ns room ≡ refuse (number f) (detail f)
       unfolding text-out
-      out-range e = rw (whole, le-ltb room 262144 wide, e)
+      out-refused f j = rw (whole, le-ltb room 262144 wide) (judged (accept (text p k ns)) j)
 
-      module _ (ranged : range (table p k ns) ≡ false) where
-        pub out-order : order (bare ns) ≡ true → text-out p k ns room ≡ refuse 3 []
-        unfolding text-out order
-        out-order e = rw (whole, le-ltb room 262144 wide, ranged, e)
-
-        pub out-text : order (bare ns) ≡ false → text-out p k ns room ≡ accept (text p k ns)
-        unfolding text-out order
-        out-text e = rw (whole, le-ltb room 262144 wide, ranged, e)
+      pub out-text : Judges (plain (table p k ns)) Pass → text-out p k ns room ≡ accept (text p k ns)
+      unfolding text-out
+      out-text j = rw (whole, le-ltb room 262144 wide) (judged (accept (text p k ns)) j)
 
 -- what a table within its bounds is
 pub record Ranged (p : ℤ) (k : ℕ) (ns : List ℤ) : Type 0 where
@@ -75,10 +75,6 @@ in-range p k ns e =
     }
 
 -- prod0 as a callee is passed it
-pub range-by : (p : ℤ) (k : ℕ) (ns : List ℤ) {r b : Bool} → SFits w32 p →
-    r ≡ range (table (toZ w32 (ofZ w32 p)) k ns) → r ≡ b → range (table p k ns) ≡ b
-range-by p k ns {r} {b} f e t = subst (λ (z : ℤ). range (table z k ns) ≡ b) (toZ-ofZ f) (sym e ∙ t)
-
 pub code-by : (p : ℤ) {r : ℕ} → SFits w32 p → Reads (code (accepting (toZ w32 (ofZ w32 p)))) r → r ≡ code (accepting p)
 code-by p {r} f e = subst (λ (z : ℤ). r ≡ code (accepting z)) (toZ-ofZ f) (e .is)
 

@@ -1,6 +1,7 @@
 // Document 01, module 7: text out.
 use paper::Refusal;
 use paper::Writing;
+use row_checks::Verdict;
 use rows::numbers;
 
 pub mod writing;
@@ -20,12 +21,12 @@ pub fn text_out(prod0: i32, k: usize, rows: &[i32], out: &mut [u8]) -> Writing
     if out.len() < 262144 {
         return Writing::Refused(Refusal::Length);
     }
-    if row_checks::range(prod0, k, rows) {
-        return Writing::Refused(Refusal::Range);
+    let verdict = row_checks::plain(prod0, k, rows);
+    match verdict {
+        Verdict::Refused(f) => Writing::Refused(f),
+        Verdict::Pass => {
+            let head = writing::put_head(out, numbers::coded(prod0), k);
+            Writing::Wrote(writing::put_rows(out, head, rows))
+        }
     }
-    if row_checks::order(rows) {
-        return Writing::Refused(Refusal::Order);
-    }
-    let head = writing::put_head(out, numbers::coded(prod0), k);
-    Writing::Wrote(writing::put_rows(out, head, rows))
 }

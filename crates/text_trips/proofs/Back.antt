@@ -16,6 +16,7 @@ use Rattle.paper.specs.Text.{lines, read-lines, text-in, text-out}
 use Rattle.rows.proofs.Rest.{length-rows}
 use Rattle.text_laws.proofs.Kept.{production-kept, numbers-kept}
 use Rattle.text_laws.proofs.Never.{refuse-accept}
+use Rattle.row_checks.proofs.Judged.{done, next-check}
 use Rattle.text_out.proofs.Out.{out-text, in-range}
 use Rattle.text_trips.proofs.Joined.{text-back}
 
@@ -70,5 +71,6 @@ read-is-written t room tb wide e h =
     let n : numbers (rows-in ns) ≡ ns = numbers-kept (r .count) ns (r .fours) (fits .rows) in
     let few : length (rows-in ns) ≤ 4096 = rw (r .is-table) at (c .few) in
     let slice = whole-slice ns (r .count) (r .fours) (omega (arith, r .fours, length-rows ns)) in
-    let out = out-text (r .prod0) (r .k) ns wide slice h ranged (rw (r .is-table) at (c .ordered)) in
+    let risen = rw (r .is-table) at (c .ordered) in
+    let out = out-text (r .prod0) (r .k) ns wide slice h (next-check ranged (next-check risen done)) in
     rw (r .is-table, p, n) (out ∙ ap accept (r .is-text))
