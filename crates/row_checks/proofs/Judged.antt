@@ -13,7 +13,7 @@ use Rattle.paper.specs.declared.Refusal.{Refusal}
 use Rattle.paper.specs.Answers.{Ruling, accept, refuse, then, number, detail}
 use Rattle.paper.specs.Checks.{first, every, row-fits, rising, production-fits, range, order, plain}
 use Rattle.rows.specs.Passed.{Passed}
-use Rattle.row_checks.specs.Verdicts.{follow, of-rows, Judges}
+use Rattle.row_checks.specs.Verdicts.{said, follow, of-rows, Judges}
 use Rattle.row_checks.specs.declared.Verdict.{Verdict}
 use Rattle.row_checks.specs.declared.Verdict.the-variants.{Pass, Refused}
 use Rattle.rows.specs.Places.{code}
@@ -49,6 +49,11 @@ refuses {c} {cs} f m d e = record { says = rw (e, m, d) }
 
 pub next-check : {c : Bool × ℕ} {cs : List (Bool × ℕ)} {v : Verdict} → c .0 ≡ false → Judges cs v → Judges (c ∷ cs) v
 next-check {c} {cs} {v} e j = record { says = rw e (j .says) }
+
+pub last-check : {b : Bool} {n : ℕ} {v : Verdict} (t : Bool) (f : Refusal) → number f ≡ n → detail f ≡ [] → b ≡ t
+    → v ≡ said t f → Judges ((b, n) ∷ []) v
+last-check true f m d e w = rw w (refuses f m d e)
+last-check false f m d e w = rw w (next-check e done)
 
 -- 2 and 3 of a table whose prod0 and k are within their bounds are those of its rows
 pub of-table : (p : ℤ) (k : ℕ) (ns : List ℤ) {v : Verdict}

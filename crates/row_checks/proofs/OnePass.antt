@@ -17,9 +17,9 @@ and-false : (b : Bool) → (b && false) ≡ false
 and-false true = refl
 and-false false = refl
 
-and-true : (b : Bool) → (b && true) ≡ b
-and-true true = refl
-and-true false = refl
+not-and-true : (b : Bool) → not (not b && true) ≡ b
+not-and-true true = refl
+not-and-true false = refl
 
 -- the place before
 abbrev before : ℕ → ℕ
@@ -62,9 +62,9 @@ module _ (ns : List ℤ) where
   above-next i x e = rw (add-one i) (ap (λ (k : ℕ). k + 1) e)
 
   pub risen-last : (falls : Bool) (i : ℕ) → length ns < i * 4 + 4 → Risen falls i → every row-fits (rows-in ns) ≡ true
-      → rising (rows-in ns) ≡ not falls
+      → not (rising (rows-in ns)) ≡ falls
   risen-last falls i l r f =
-      r f ∙ ap (λ (b : Bool). not falls && b) (rising-end ns (before i) (last i l)) ∙ and-true (not falls)
+      ap not (r f ∙ ap (λ (b : Bool). not falls && b) (rising-end ns (before i) (last i l))) ∙ not-and-true falls
     where
       last : (i : ℕ) → length ns < i * 4 + 4 → length ns < before i * 4 + 8
       last zero l = omega arith

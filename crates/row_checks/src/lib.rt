@@ -7,12 +7,22 @@ ghost use lib.ListN.{length};
 ghost use Rattle.paper.specs.Rows.{table};
 ghost use Rattle.paper.specs.Checks.{row-slice, row-fits, shape, plain};
 ghost use Rattle.rows.specs.Places.{row-at, bare};
-ghost use Rattle.row_checks.specs.Verdicts.{of-rows, Judges};
+ghost use Rattle.row_checks.specs.Verdicts.{said, of-rows, Judges};
 
 // What the checks say.
 pub enum Verdict {
     Pass,
     Refused(Refusal),
+}
+
+// What the last check of a call says, that refuses by f.
+pub fn last(refuses: bool, f: Refusal) -> Verdict
+    ensures { λ r. ⌜ r ≡ said refuses f ⌝ }
+{
+    if refuses {
+        return Verdict::Refused(f);
+    }
+    Verdict::Pass
 }
 
 // 1 LENGTH, of a row slice.
@@ -62,10 +72,7 @@ fn in_one_pass(rows: &[i32]) -> Verdict
         above = key + 1;
         i += 1;
     }
-    if falls {
-        return Verdict::Refused(Refusal::Order);
-    }
-    Verdict::Pass
+    last(falls, Refusal::Order)
 }
 
 // 4 SHAPE.

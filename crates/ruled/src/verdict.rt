@@ -25,10 +25,7 @@ fn beyond(rows: &[i32]) -> Verdict
     if checks::loose(rows, &first) {
         return Verdict::Refused(Refusal::Loose);
     }
-    if checks::split(rows, &first) {
-        return Verdict::Refused(Refusal::Split);
-    }
-    Verdict::Pass
+    row_checks::last(checks::split(rows, &first), Refusal::Split)
 }
 
 // The checks 2 to 6: a table that passes them is ruled.
@@ -52,8 +49,5 @@ pub fn tree(prod0: i32, k: usize, rows: &[i32]) -> Verdict
     let Verdict::Pass = v else {
         return v;
     };
-    if counts::no_tree(rows) {
-        return Verdict::Refused(Refusal::Tree);
-    }
-    Verdict::Pass
+    row_checks::last(counts::no_tree(rows), Refusal::Tree)
 }

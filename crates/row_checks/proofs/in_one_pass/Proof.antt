@@ -11,7 +11,7 @@ use Rattle.paper.specs.Rows.{rows-in}
 use Rattle.paper.specs.Checks.{every, row-fits, order}
 use Rattle.rows.specs.Places.{row-at, rest, key}
 use Rattle.rows.proofs.Rest.{every-next, every-fails, every-end}
-use Rattle.row_checks.proofs.Judged.{done, refuses, next-check}
+use Rattle.row_checks.proofs.Judged.{refuses, next-check, last-check}
 use Rattle.row_checks.proofs.OnePass as pass
 use Rattle.row_checks.proofs.in_one_pass.Statement.{statement}
 use Rattle.row_checks.proofs.in_one_pass.Tie as tie
@@ -79,24 +79,17 @@ loop-again c =
           (l .loop .inv .2),
     )
 
+last-requires : tie.Need-last-requires Inv-loop μ-loop
+last-requires c κs = search needs
+
 returns-2 : tie.Need-returns-2 Inv-loop μ-loop
 unfolding order
 returns-2 c =
     let l = c .before .before in
     let ns = l .before .args .rows .now in
     let f = l .loop .inv .0 ∙ every-end row-fits ns (l .loop .i) (omega arith) in
-    next-check (ap not f) (refuses Order refl refl
-    (ap not (pass.risen-last ns (l .loop .falls) (l .loop .i) (omega arith) (l .loop .inv .2) f) ∙ rw (c .if3 .taken)))
-
-returns-3 : tie.Need-returns-3 Inv-loop μ-loop
-unfolding order
-returns-3 c =
-    let l = c .before .before in
-    let ns = l .before .args .rows .now in
-    let f = l .loop .inv .0 ∙ every-end row-fits ns (l .loop .i) (omega arith) in
-    next-check (ap not f) (next-check
-    (ap not (pass.risen-last ns (l .loop .falls) (l .loop .i) (omega arith) (l .loop .inv .2) f) ∙ rw (c .if3 .left))
-    done)
+    let e = pass.risen-last ns (l .loop .falls) (l .loop .i) (omega arith) (l .loop .inv .2) f in
+    next-check (ap not f) (last-check (l .loop .falls) Order refl refl e (c .last .ensures))
 
 pub in-one-pass-spec : {M : Type 1} → statement M
 in-one-pass-spec =
@@ -115,5 +108,5 @@ in-one-pass-spec =
     add-i
     loop-less
     loop-again
-    returns-2
-    returns-3)
+    last-requires
+    returns-2)

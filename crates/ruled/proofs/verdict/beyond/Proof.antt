@@ -1,7 +1,7 @@
 -- The verdict is that of 4, then 5, then 6. Assumes nothing.
 use mathlib.Core.Path.{refl, sym, _∙_}
 use Rattle.paper.specs.declared.Refusal.the-variants.{Shape, Loose, Split}
-use Rattle.row_checks.proofs.Judged.{done, refuses, next-check}
+use Rattle.row_checks.proofs.Judged.{refuses, next-check, last-check}
 use Rattle.counts.proofs.Arrays.{clear}
 use borrow.Author.Needs.{needs}
 use Rattle.ruled.proofs.verdict.beyond.Statement.{statement}
@@ -29,6 +29,9 @@ returns-2 c =
 split-requires : tie.Need-split-requires
 split-requires c κs = search needs
 
+last-requires : tie.Need-last-requires
+last-requires c κs = search needs
+
 returns-3 : tie.Need-returns-3
 returns-3 c =
     let p = c .before in
@@ -37,17 +40,7 @@ returns-3 c =
     let s = l .before .before .before .before in
     next-check (sym (s .before .shape .ensures) ∙ s .if1 .left)
     (next-check (sym (l .loose .ensures) ∙ d .if2 .left)
-    (refuses Split refl refl (sym (p .split .ensures) ∙ c .if3 .taken)))
-
-returns-4 : tie.Need-returns-4
-returns-4 c =
-    let p = c .before in
-    let d = p .before .before in
-    let l = d .before in
-    let s = l .before .before .before .before in
-    next-check (sym (s .before .shape .ensures) ∙ s .if1 .left)
-    (next-check (sym (l .loose .ensures) ∙ d .if2 .left)
-    (next-check (sym (p .split .ensures) ∙ c .if3 .left) done))
+    (last-check (p .split .result) Split refl refl (sym (p .split .ensures)) (c .last .ensures)))
 
 pub beyond-spec : {M : Type 1} → statement M
 beyond-spec =
@@ -59,5 +52,5 @@ beyond-spec =
     loose-requires
     returns-2
     split-requires
-    returns-3
-    returns-4)
+    last-requires
+    returns-3)
