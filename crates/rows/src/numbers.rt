@@ -2,7 +2,7 @@
 ghost use mathlib.Core.Path.{_≡_};
 ghost use mathlib.Core.Bool.{true};
 ghost use Prim.Native.Nat.{_+_, _*_, _/_, _<_, _≤_};
-ghost use lib.ListN.{length};
+ghost use lib.ListN.{length, getD};
 ghost use lib.IntN.{pos};
 ghost use Rattle.paper.specs.Rows.{natural, accepting, signed, rows-in};
 ghost use Rattle.paper.specs.Checks.{every, row-fits};
@@ -44,6 +44,14 @@ pub fn production_of(n: usize) -> i32
     if n == 0 { -1 } else { (n - 1) as i32 }
 }
 
+// The number in column c of row i, which may not be below 0.
+fn column(rows: &[i32], i: usize, c: usize) -> usize
+    requires { ⌜ (i * 4 + 3 < length (now rows)) × (c ≤ 3) ⌝ }
+    ensures { λ r. ⌜ Reads (natural (getD (now (rows .entry)) (i * 4 + c) (pos 0))) r ⌝ }
+{
+    natural(rows[i * 4 + c])
+}
+
 // Row i's from.
 pub fn from_at(rows: &[i32], i: usize) -> usize
     requires { ⌜ i * 4 + 3 < length (now rows) ⌝ }
@@ -57,7 +65,7 @@ pub fn terminal_at(rows: &[i32], i: usize) -> usize
     requires { ⌜ i * 4 + 3 < length (now rows) ⌝ }
     ensures { λ r. ⌜ Reads (row-at (now (rows .entry)) i .terminal) r ⌝ }
 {
-    natural(rows[i * 4 + 1])
+    column(rows, i, 1)
 }
 
 // Row i's to.
@@ -65,7 +73,7 @@ pub fn to_at(rows: &[i32], i: usize) -> usize
     requires { ⌜ i * 4 + 3 < length (now rows) ⌝ }
     ensures { λ r. ⌜ Reads (row-at (now (rows .entry)) i .to) r ⌝ }
 {
-    natural(rows[i * 4 + 2])
+    column(rows, i, 2)
 }
 
 // The code of row i's production.

@@ -2,8 +2,8 @@ use Prim.Native.Nat.{_+_, _*_}
 use Rattle.rows.proofs.Signed as s
 use Rattle.paper.specs.Rows.{natural}
 use borrow.Author.Needs.{needs}
-use Rattle.rows.proofs.numbers.to_at.Statement.{statement}
-use Rattle.rows.proofs.numbers.to_at.Tie as tie
+use Rattle.rows.proofs.numbers.column.Statement.{statement}
+use Rattle.rows.proofs.numbers.column.Tie as tie
 
 mul-natural : tie.Need-mul-natural
 mul-natural c = search needs
@@ -23,10 +23,10 @@ natural-requires c κs = search needs
 returns : tie.Need-returns
 returns c =
     let a = c .before .before .args in
-    s.read-at natural (a .rows .now) (a .i * 4 + 2) _ (c .before .natural-arg .given) (c .natural .ensures)
+    s.read-at natural (a .rows .now) (a .i * 4 + a .c) _ (c .before .natural-arg .given) (c .natural .ensures)
 
-pub to-at-spec : {M : Type 1} → statement M
-to-at-spec =
+pub column-spec : {M : Type 1} → statement M
+column-spec =
     tie.close
     (tie.spec
     mul-natural
