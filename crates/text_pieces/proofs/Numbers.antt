@@ -1,14 +1,15 @@
 -- Digits at a place of a line, and the number that they make. Assumes nothing.
 use Prim.Native.Nat.{ℕ, zero, suc, _+_, _-_, _*_, _^_, _<_, _≤_}
-use mathlib.Core.Path.{_≡_, ap, _∙_}
+use mathlib.Core.Path.{_≡_, refl, ap, sym, _∙_}
 use mathlib.Core.Bool.{true, false, cond}
 use mathlib.Core.List.{List, [], _∷_}
 use native.Mathlib.Omega.{arith}
-use native.Mathlib.Nat.{le-refl, pow-succ', mul-assoc, mul-le-mul-right}
+use native.Mathlib.Nat.{pow-succ', mul-assoc, mul-le-mul-right}
+use native.Mathlib.Numerals.{add-one}
 use borrow.Author.Tests.{le-leb, lt-leb, leb-true}
 use lib.Dec.{leb}
-use lib.ListN.{length, getD, drop, drop-of-length-le}
-use lib.Seq.{drop-cons}
+use lib.ListN.{length, getD, drop, drop-of-length-le, length-drop}
+use lib.Seq.{drop-cons, getD-drop}
 use Rattle.paper.specs.Text.{is-digit, digit-count, value}
 use Rattle.rows.proofs.Rest.{by-test, both}
 
@@ -48,26 +49,19 @@ module _ (l : List ℕ) (k : ℕ) where
     pub digits-high : 57 < getD l k 0 → digit-count (drop k l) ≡ 0
     digits-high a = digits-here ∙ rw (digit-high (getD l k 0) a)
 
-    -- where a digit is counted, one stands
-    module _ (c : ℕ) (e : digit-count (drop k l) ≡ suc c) where
-      pub digit-there : (48 ≤ getD l k 0) × (getD l k 0 ≤ 57)
-      digit-there = by-test (is-digit (getD l k 0)) (digit-of (getD l k 0))
-          (λ f. let z : digit-count (drop k l) ≡ 0 = digits-here ∙ rw f in absurd (omega arith))
-
-      pub digits-left : digit-count (drop (suc k) l) ≡ c
-      digits-left =
-          omega (arith, digits-next (digit-there .0) (digit-there .1))
-
-      pub value-next : (n : ℕ) → value (suc c) n (drop k l) ≡ value c (n * 10 + (getD l k 0 - 48)) (drop (suc k) l)
-      unfolding value
-      value-next n = ap (value (suc c) n) (drop-cons l k 0 h)
-
--- a number only grows by further digits
-pub value-grows : (c n : ℕ) (bs : List ℕ) → n ≤ value c n bs
+-- one digit more
+value-last : (c n : ℕ) (bs : List ℕ) → c < length bs → value (suc c) n bs ≡ value c n bs * 10 + (getD bs c 0 - 48)
 unfolding value
-value-grows zero n bs = le-refl n
-value-grows (suc c) n [] = le-refl n
-value-grows (suc c) n (b ∷ bs) = omega (arith, value-grows c (n * 10 + (b - 48)) bs)
+value-last c n [] h = absurd (omega arith)
+value-last zero n (b ∷ bs) h = refl
+value-last (suc c) n (b ∷ bs) h = value-last c (n * 10 + (b - 48)) bs (omega arith)
+
+pub value-on : (l : List ℕ) (at n : ℕ) → at + n < length l
+    → value n 0 (drop at l) * 10 + (getD l (at + n) 0 - 48) ≡ value (n + 1) 0 (drop at l)
+value-on l at n h =
+    let e = value-last n 0 (drop at l) (omega (arith, length-drop at l)) in
+    let d = ap (λ (b : ℕ). value n 0 (drop at l) * 10 + (b - 48)) (getD-drop at l n 0) in
+    rw (add-one n) (sym (e ∙ d))
 
 value-bound : (c n : ℕ) (bs : List ℕ) → c ≤ digit-count bs → value c n bs < suc n * 10 ^ c
 unfolding value digit-count

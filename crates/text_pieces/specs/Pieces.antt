@@ -1,5 +1,6 @@
 -- A line read piece by piece, each at a place.
-use Prim.Native.Nat.{ℕ, suc, _+_}
+use Prim.Native.Nat.{ℕ, suc, _+_, _≤_}
+use mathlib.Core.Path.{_≡_}
 use mathlib.Core.Bool.{Bool, true, false, _&&_, cond}
 use mathlib.Core.Option.{Option, none, some}
 use mathlib.Core.List.{List}
@@ -18,6 +19,13 @@ is-some (some a) = true
 -- Whether a word stands at the front.
 unfoldable pub starts : List ℕ → List ℕ → Bool
 starts w bs = is-some (past w bs)
+
+-- So many digits at a place, and their number; six of more are enough.
+pub record Counts (l : List ℕ) (at count number : ℕ) : Type 0 where
+  pub inside : at + count ≤ length l
+  pub made : number ≡ value count 0 (drop at l)
+  pub least : count ≤ digit-count (drop at l)
+  pub all : count ≤ 5 → count ≡ digit-count (drop at l)
 
 -- The number at a place, and the place after it.
 unfoldable pub number-at : List ℕ → ℕ → Number

@@ -2,8 +2,7 @@
 ghost use mathlib.Core.Path.{_≡_};
 ghost use Prim.Native.Nat.{_+_, _<_, _≤_};
 ghost use lib.ListN.{length, drop};
-ghost use Rattle.paper.specs.Text.{digit-count, value};
-ghost use Rattle.text_pieces.specs.Pieces.{starts, number-at, production-at, field-at, last-at, ends-at};
+ghost use Rattle.text_pieces.specs.Pieces.{starts, Counts, number-at, production-at, field-at, last-at, ends-at};
 
 // A number and the place after it, or no number in form.
 pub enum Number {
@@ -29,37 +28,33 @@ fn word_at(line: &[u8], at: usize, word: &[u8]) -> bool
     true
 }
 
-// How many digits stand at a place.
-fn digit_count(line: &[u8], at: usize) -> usize
+// The digits at a place: how many they are and their number; six or more are not told apart.
+struct Counted {
+    count: usize,
+    value: usize,
+}
+
+fn digits(line: &[u8], at: usize) -> Counted
     requires { ⌜ at ≤ length (now line) ⌝ }
-    ensures { λ r. ⌜ (r ≡ digit-count (drop at (now (line .entry)))) × (at + r ≤ length (now (line .entry))) ⌝ }
+    ensures { λ r. ⌜ Counts (now (line .entry)) at (r .count) (r .value) ⌝ }
 {
     let mut n = 0;
+    let mut v = 0;
     while at + n < line.len() {
         let b = line[at + n];
         if b < 48 {
-            return n;
+            return Counted { count: n, value: v };
         }
         if 57 < b {
-            return n;
+            return Counted { count: n, value: v };
         }
+        if 5 < n {
+            return Counted { count: n, value: v };
+        }
+        v = v * 10 + (b - 48) as usize;
         n += 1;
     }
-    n
-}
-
-// The number of the digits at a place, at most 5.
-fn value(line: &[u8], at: usize, count: usize) -> usize
-    requires { ⌜ (at + count ≤ length (now line)) × (count ≡ digit-count (drop at (now line))) × (count ≤ 5) ⌝ }
-    ensures { λ r. ⌜ r ≡ value count 0 (drop at (now (line .entry))) ⌝ }
-{
-    let mut n: usize = 0;
-    let mut i = 0;
-    while i < count {
-        n = n * 10 + (line[at + i] - 48) as usize;
-        i += 1;
-    }
-    n
+    Counted { count: n, value: v }
 }
 
 // The number at a place: 1 to 5 digits without leading zero.
@@ -67,7 +62,8 @@ fn number_at(line: &[u8], at: usize) -> Number
     requires { ⌜ at ≤ length (now line) ⌝ }
     ensures { λ r. ⌜ r ≡ number-at (now (line .entry)) at ⌝ }
 {
-    let count = digit_count(line, at);
+    let d = digits(line, at);
+    let count = d.count;
     if count < 1 {
         return Number::Bad;
     }
@@ -79,7 +75,7 @@ fn number_at(line: &[u8], at: usize) -> Number
             return Number::Bad;
         }
     }
-    Number::Is(value(line, at, count), at + count)
+    Number::Is(d.value, at + count)
 }
 
 // The production at a place, by its code.
