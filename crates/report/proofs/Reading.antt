@@ -16,7 +16,7 @@ use Rattle.paper.specs.Text.{text-in}
 use Rattle.laws.proofs.RowNumbers.{table-numbers, slice-numbers}
 use Rattle.rows.specs.Places.{code}
 use Rattle.row_checks.proofs.Judged.{bounded}
-use Rattle.text_in.proofs.Filled.{stored}
+use Rattle.rows.proofs.Signed.{stored}
 use Rattle.text_trips.proofs.Back.{passed}
 use Rattle.text_trips.proofs.Trips.{of-rows}
 use Rattle.report.specs.Rulings.{Taken, of-table, of-text}

@@ -5,3 +5,4 @@ pub mod Fits
 pub mod Keys
 pub mod Passing
 pub mod Counted
+pub mod Four

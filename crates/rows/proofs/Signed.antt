@@ -115,3 +115,11 @@ plain-cast z h m = rw (back z m) (not-below z h (record { sfits = m }))
 
 pub plain-read : (z : ℤ) → natural z ≤ 65535 → mag z < 2 ^ 31 → natAbs (toZ w32 (ofZ w32 z)) ≡ natural z
 plain-read z h m = rw (back z m) (cast-of z h)
+
+-- numbers as they are stored
+pub stored : (n : ℕ) (z : ℤ) → n ≤ 65535 → z ≡ pos n → toZ w32 (ofZ w32 z) ≡ pos n
+stored n z h e = rw e (toZ-ofZ {w = w32} {z = pos n} (record { sfits = omega arith }))
+
+pub stored-code : (c : ℕ) (z : ℤ) → c ≤ 65536 → z ≡ signed (uncoded c) → toZ w32 (ofZ w32 z) ≡ signed (uncoded c)
+stored-code zero z h e = rw e
+stored-code (suc n) z h e = stored n z (omega arith) e

@@ -3,7 +3,7 @@ use Prim.Native.Nat.{ℕ, zero, suc, _+_, _*_, _≤_}
 use mathlib.Core.Path.{_≡_}
 use mathlib.Core.Option.{Option, none, some}
 use mathlib.Core.List.{List}
-use lib.ListN.{getD, drop}
+use lib.ListN.{getD, drop, set}
 use lib.IntN.{ℤ, pos}
 use Rattle.paper.specs.Rows.{Row, Table, natural, accepting, rows-in, table}
 
@@ -41,3 +41,7 @@ rest ns i = rows-in (drop (i * 4) ns)
 -- A row slice as a table: the checks 3 to 7 look at its rows alone.
 abbrev pub bare : List ℤ → Table
 bare ns = table (pos 0) 0 ns
+
+-- Four numbers set from a place on.
+abbrev pub four : List ℤ → ℕ → ℤ → ℤ → ℤ → ℤ → List ℤ
+four ns i a b c d = set (set (set (set ns i a) (i + 1) b) (i + 2) c) (i + 3) d

@@ -6,7 +6,7 @@ ghost use lib.ListN.{length, getD};
 ghost use lib.IntN.{pos};
 ghost use Rattle.paper.specs.Rows.{natural, accepting, signed, rows-in};
 ghost use Rattle.paper.specs.Checks.{every, row-fits};
-ghost use Rattle.rows.specs.Places.{Reads, code, uncoded, row-at, key};
+ghost use Rattle.rows.specs.Places.{Reads, code, uncoded, row-at, key, four};
 
 // A number that may not be below 0.
 pub fn natural(x: i32) -> usize
@@ -90,4 +90,16 @@ pub fn key_at(rows: &[i32], i: usize) -> usize
     ensures { λ r. ⌜ r ≡ key (row-at (now (rows .entry)) i) ⌝ }
 {
     (rows[i * 4] as usize) * 65536 + (rows[i * 4 + 1] as usize)
+}
+
+// The numbers of a row, from a place on; its production by its code.
+pub fn put_row(out: &mut [i32], at: usize, from: usize, terminal: usize, to: usize, code: usize)
+    requires { ⌜ (at + 4 ≤ length (now out)) × (from ≤ 65535) × (terminal ≤ 65535) × (to ≤ 65535) × (code ≤ 65536) ⌝ }
+    ensures { λ _. ⌜ now (out .exit)
+        ≡ four (now (out .entry)) at (pos from) (pos terminal) (pos to) (signed (uncoded code)) ⌝ }
+{
+    out[at] = number_of(from);
+    out[at + 1] = number_of(terminal);
+    out[at + 2] = number_of(to);
+    out[at + 3] = production_of(code);
 }

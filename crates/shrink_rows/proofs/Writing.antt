@@ -1,20 +1,16 @@
 -- Rows written into an output: none, one, and some after others.
 -- Assumes room for them.
 use mathlib.Core.Path.{_≡_, refl, sym, ap, _∙_}
-use mathlib.Core.Option.{Option, none, some}
 use mathlib.Core.List.{List, [], _∷_, _++_, append-assoc, append-nil}
-use Prim.Native.Nat.{ℕ, suc, _+_, _*_, _^_, _≤_, _<_}
+use Prim.Native.Nat.{ℕ, _+_, _*_, _≤_}
 use native.Mathlib.Omega.{arith}
-use lib.ListN.{length, take, drop, set, length-append, length-set, take-append-drop}
-use lib.Seq.{take-at, drop-at, drop-drop, length-take-le, sets-eq}
+use lib.ListN.{length, take, drop, length-append, length-set, take-append-drop}
+use lib.Seq.{take-at, drop-at, drop-drop, length-take-le}
 use lib.IntN.{ℤ, pos}
-use lib.Signed.{mag}
-use mir.Syntax.{w32}
-use mir.Val.{toZ, ofZ}
 use Rattle.laws.proofs.RowNumbers.{length-numbers, numbers-append}
 use Rattle.paper.specs.Rows.{Row, signed, numbers}
-use Rattle.rows.specs.Places.{code, uncoded}
-use Rattle.rows.proofs.Signed.{back}
+use Rattle.rows.specs.Places.{code, uncoded, four}
+use Rattle.rows.proofs.Four.{four-is}
 use Rattle.shrink_rows.specs.Output.{Written}
 use Rattle.rows.proofs.Codes.{uncoded-code}
 
@@ -25,19 +21,6 @@ written-none old at = record {
   back = refl;
   sized = refl;
 }
-
--- the four numbers of a row, set one after the other
-abbrev four : List ℤ → ℕ → ℤ → ℤ → ℤ → ℤ → List ℤ
-four l i a b c d = set (set (set (set l i a) (i + 1) b) (i + 2) c) (i + 3) d
-
-four-is : (l : List ℤ) (i : ℕ) (a b c d : ℤ) → i + 4 ≤ length l
-    → four l i a b c d ≡ take i l ++ ((a ∷ b ∷ c ∷ d ∷ []) ++ drop (i + 4) l)
-four-is l i a b c d h =
-    let e₁ : i + 1 ≡ suc i = omega arith in
-    let e₂ : i + 2 ≡ suc (suc i) = omega arith in
-    let e₃ : i + 3 ≡ suc (suc (suc i)) = omega arith in
-    rw (e₁, e₂, e₃)
-    (sets-eq (a ∷ b ∷ c ∷ d ∷ []) l i h ∙ append-assoc (take i l) (a ∷ b ∷ c ∷ d ∷ []) (drop (i + 4) l))
 
 written-one : (old new : List ℤ) (at : ℕ) (r : Row) → at * 4 + 4 ≤ length old
     → new ≡ four old (at * 4) (pos (r .from)) (pos (r .terminal)) (pos (r .to)) (signed (r .production))
@@ -58,26 +41,13 @@ written-one old new at r h e =
       sized = ap length e ∙ simp length-set;
     }
 
--- the same from the numbers that are stored
-pub written-row : (old : List ℤ) (at : ℕ) (r : Row) (x y z w : ℤ) → at * 4 + 4 ≤ length old
-    → x ≡ pos (r .from) → y ≡ pos (r .terminal) → z ≡ pos (r .to) → w ≡ signed (r .production)
-    → Written old (four old (at * 4) x y z w) at (at + 1) (r ∷ [])
-written-row old at r x y z w h e f g k =
-    written-one old (four old (at * 4) x y z w) at r h (λ i. four old (at * 4) (e i) (f i) (g i) (k i))
-
--- a number or a production as the slice holds it
-pub stored : (z : ℤ) (n m : ℕ) → z ≡ pos n → n ≡ m → n ≤ 65535 → toZ w32 (ofZ w32 z) ≡ pos m
-stored z n m e f l = ap (λ (x : ℤ). toZ w32 (ofZ w32 x)) e ∙ back (pos n) (omega arith) ∙ ap pos f
-
-small : (p : Option ℕ) → code p ≤ 65536 → mag (signed p) < 2 ^ 31
-small none l = omega arith
-small (some q) l = omega arith
-
-pub stored-production : (z : ℤ) (n : ℕ) (p : Option ℕ) → z ≡ signed (uncoded n) → n ≡ code p → n ≤ 65536
-    → toZ w32 (ofZ w32 z) ≡ signed p
-stored-production z n p e f l =
-    let q : z ≡ signed p = e ∙ ap (λ (x : ℕ). signed (uncoded x)) f ∙ ap signed (uncoded-code p) in
-    ap (λ (x : ℤ). toZ w32 (ofZ w32 x)) q ∙ back (signed p) (small p (omega arith))
+-- the same of a row whose production is given by its code
+pub written-row : (old new : List ℤ) (at : ℕ) (r : Row) (f t g c : ℕ) → at * 4 + 4 ≤ length old
+    → f ≡ r .from → t ≡ r .terminal → g ≡ r .to → c ≡ code (r .production)
+    → new ≡ four old (at * 4) (pos f) (pos t) (pos g) (signed (uncoded c)) → Written old new at (at + 1) (r ∷ [])
+written-row old new at r f t g c h e₁ e₂ e₃ e₄ e =
+    let q : signed (uncoded c) ≡ signed (r .production) = rw e₄ (ap signed (uncoded-code (r .production))) in
+    written-one old new at r h (e ∙ (λ i. four old (at * 4) (pos (e₁ i)) (pos (e₂ i)) (pos (e₃ i)) (q i)))
 
 module _ {a b c : List ℤ} {at mid end : ℕ} {xs ys : List Row} (v : Written a b at mid xs) (w : Written b c mid end ys)
   where

@@ -36,11 +36,8 @@ fn emit_row(
         (new-row (now (rows .entry)) (now (class .entry)) (now (number .entry)) f i ∷ []) ⌝ }
 {
     let to = index::at(number, same::to_mark(rows, class, i));
-    let at = o * 4;
-    out[at] = numbers::number_of(f);
-    out[at + 1] = numbers::number_of(numbers::terminal_at(rows, i));
-    out[at + 2] = numbers::number_of(to);
-    out[at + 3] = numbers::production_of(numbers::code_at(rows, i));
+    let terminal = numbers::terminal_at(rows, i);
+    numbers::put_row(out, o * 4, f, terminal, to, numbers::code_at(rows, i));
 }
 
 // The rows of state h, from the new number f, from row at of the output on; the row after them.

@@ -1,18 +1,14 @@
 -- The pass that writes rows: their numbers as they are stored, and row after row. Assumes nothing.
-use Prim.Native.Nat.{ℕ, zero, suc, _+_, _-_, _<_, _≤_}
+use Prim.Native.Nat.{ℕ, _+_, _-_, _<_, _≤_}
 use mathlib.Core.Path.{_≡_, refl, ap, sym, _∙_}
 use mathlib.Core.Bool.{true, _&&_}
 use mathlib.Core.List.{List, [], _++_}
 use native.Mathlib.Omega.{arith}
-use lib.IntN.{ℤ, pos}
+use lib.IntN.{ℤ}
 use lib.ListN.{length}
-use mir.Syntax.{w32}
-use mir.Val.{toZ, ofZ}
-use mir.Facts.{toZ-ofZ}
-use Rattle.paper.specs.Rows.{Row, signed, rows-in}
+use Rattle.paper.specs.Rows.{Row, rows-in}
 use Rattle.paper.specs.Answers.{Ruling, accept, refuse, then}
 use Rattle.paper.specs.Checks.{every, row-fits}
-use Rattle.rows.specs.Places.{uncoded}
 use Rattle.rows.proofs.Rest.{both}
 use Rattle.text_lines.specs.declared.reading.RowLine.the-variants as row-line
 use Rattle.text_laws.specs.Put.{put}
@@ -23,14 +19,6 @@ use Rattle.text_laws.proofs.Never.{refuse-accept}
 use Rattle.text_laws.proofs.Put.{put-put}
 use Rattle.text_in.proofs.Parted.{rows-end, rows-bad}
 use Rattle.text_in.proofs.Tallied.{row-back, rows-cons}
-
--- numbers as they are stored
-pub stored : (n : ℕ) (z : ℤ) → n ≤ 65535 → z ≡ pos n → toZ w32 (ofZ w32 z) ≡ pos n
-stored n z h e = rw e (toZ-ofZ {w = w32} {z = pos n} (record { sfits = omega arith }))
-
-pub stored-code : (c : ℕ) (z : ℤ) → c ≤ 65536 → z ≡ signed (uncoded c) → toZ w32 (ofZ w32 z) ≡ signed (uncoded c)
-stored-code zero z h e = rw e
-stored-code (suc n) z h e = stored n z (omega arith) e
 
 module _ (t : List ℕ) (at room : ℕ) (h : at < length t) (ready : Ready t at room) where
   -- a bad line is not met

@@ -8,7 +8,7 @@ ghost use Prim.Native.Nat.{_+_, _<_, _≤_};
 ghost use lib.ListN.{length};
 ghost use Rattle.paper.specs.Checks.{row-fits};
 ghost use Rattle.text_laws.specs.Put.{put};
-ghost use Rattle.text_laws.specs.Written.{row, row-numbers};
+ghost use Rattle.text_laws.specs.Written.{row};
 ghost use Rattle.text_in.specs.Tally.{tallied, tally-from, start, scanned, numbers-from, Ready};
 
 // What is known of the rows so far: how many, whether all are within bounds, whether their keys
@@ -86,17 +86,6 @@ pub fn scan(text: &[u8], at: usize) -> Pass
     Pass::Rows(tally)
 }
 
-// The numbers of a row, from a place on.
-fn put_numbers(out: &mut [i32], at: usize, from: usize, on: usize, to: usize, code: usize)
-    requires { ⌜ (at + 4 ≤ length (now out)) × (from ≤ 65535) × (on ≤ 65535) × (to ≤ 65535) × (code ≤ 65536) ⌝ }
-    ensures { λ _. ⌜ now (out .exit) ≡ put (now (out .entry)) at (row-numbers (row from on to code)) ⌝ }
-{
-    out[at] = numbers::number_of(from);
-    out[at + 1] = numbers::number_of(on);
-    out[at + 2] = numbers::number_of(to);
-    out[at + 3] = numbers::production_of(code);
-}
-
 // The pass that writes the rows of the lines from a place on.
 pub fn fill(text: &[u8], at: usize, out: &mut [i32])
     requires { ⌜ (at ≤ length (now text)) × Ready (now text) at (length (now out)) ⌝ }
@@ -108,7 +97,7 @@ pub fn fill(text: &[u8], at: usize, out: &mut [i32])
         let RowLine::Row(from, on, to, code, next) = reading::row_from(text, place) else {
             return;
         };
-        put_numbers(out, i, from, on, to, code);
+        numbers::put_row(out, i, from, on, to, code);
         i += 4;
         place = next;
     }

@@ -5,18 +5,10 @@ use mathlib.Core.List.{List, [], _∷_, _++_, append-assoc}
 use native.Mathlib.Omega.{arith}
 use native.Mathlib.Nat.{add-zero, zero-add}
 use lib.ListN.{length, take, drop, set, length-append, length-drop, take-append-drop}
-use lib.Seq.{
-  take-at,
-  drop-at,
-  drop-append-add,
-  drop-drop,
-  length-take-le,
-  take-length,
-  take-set-le,
-  paste,
-  set-split,
-  sets-eq,
-}
+use lib.Seq.{take-at, drop-at, drop-append-add, drop-drop, length-take-le, take-length, take-set-le, paste, set-split}
+use lib.IntN.{ℤ}
+use Rattle.rows.specs.Places.{four}
+use Rattle.rows.proofs.Four.{four-is}
 use Rattle.text_laws.specs.Put.{put}
 
 module _ {A : Type 0} (l : List A) (at : ℕ) where
@@ -78,13 +70,7 @@ put-last l at a d h =
     rw (take-set-le at l k d (omega arith), r, n)
     (ap (λ x. take at l ++ x) (sym (append-assoc a (d ∷ []) (drop (suc k) l))))
 
--- four elements, one after another
-pub put-four : {A : Type 0} (l : List A) (at : ℕ) (a b c d : A) → at + 4 ≤ length l →
-    set (set (set (set l at a) (at + 1) b) (at + 2) c) (at + 3) d ≡ put l at (a ∷ b ∷ c ∷ d ∷ [])
+-- four numbers, one after another
+pub put-four : (l : List ℤ) (at : ℕ) (a b c d : ℤ) → at + 4 ≤ length l → four l at a b c d ≡ put l at (a ∷ b ∷ c ∷ d ∷ [])
 unfolding put
-put-four l at a b c d h =
-    let e₁ : at + 1 ≡ suc at = omega arith in
-    let e₂ : at + 2 ≡ suc (suc at) = omega arith in
-    let e₃ : at + 3 ≡ suc (suc (suc at)) = omega arith in
-    let vs = a ∷ b ∷ c ∷ d ∷ [] in
-    rw (e₁, e₂, e₃) (sets-eq vs l at h ∙ append-assoc (take at l) vs (drop (at + 4) l))
+put-four = four-is

@@ -13,7 +13,7 @@ use Rattle.text_lines.specs.declared.reading.HeadLine.the-variants.{Head}
 use Rattle.text_lines.specs.Reading.{head-from}
 use Rattle.text_in.specs.Tally.{scanned, start, tally-from}
 use Rattle.text_lines.proofs.Small.{head-from-at}
-use Rattle.text_in.proofs.Filled.{stored-code}
+use Rattle.rows.proofs.Signed.{stored-code}
 use Rattle.text_in.proofs.In.{
   refused,
   in-room,

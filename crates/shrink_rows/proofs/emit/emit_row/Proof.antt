@@ -1,14 +1,14 @@
 use mathlib.Core.Path.{_≡_, refl, ap, _∙_}
 use Prim.Native.Nat.{ℕ}
 use native.Mathlib.Omega.{arith}
-use lib.ListN.{getD, length-set}
+use lib.ListN.{getD}
 use Rattle.paper.specs.Rows.{rows-in}
 use Rattle.rows.specs.Places.{row-at}
 use Rattle.rows.proofs.Passing.{fit-at}
 use Rattle.merging.proofs.States.{to-state}
 use Rattle.shrink_rows.specs.Output.{new-row}
 use Rattle.shrink_rows.proofs.Emitting.{row-in}
-use Rattle.shrink_rows.proofs.Writing.{written-row, stored, stored-production}
+use Rattle.shrink_rows.proofs.Writing.{written-row}
 use borrow.Author.Needs.{needs}
 use Rattle.shrink_rows.proofs.emit.emit_row.Statement.{statement}
 use Rattle.shrink_rows.proofs.emit.emit_row.Tie as tie
@@ -28,90 +28,44 @@ at-requires c κs =
           (row-in ns (a .i) (s .pre .3))),
     )
 
-mul-at : tie.Need-mul-at
-mul-at c = search needs
-
-number-of-requires : tie.Need-number-of-requires
-number-of-requires c κs = search needs
-
-mul-out : tie.Need-mul-out
-mul-out c = search needs
-
-slice-set-from-out : tie.Need-slice-set-from-out
-slice-set-from-out c = search needs
-
 terminal-at-requires : tie.Need-terminal-at-requires
 terminal-at-requires c κs = search needs
 
-number-of-requires-2 : tie.Need-number-of-requires-2
-number-of-requires-2 c κs =
-    let s = c .before .before .before .before in
-    omega (arith, c .terminal-at .ensures, fit-at (s .pre .0) (s .args .i) (s .pre .3) .terminal)
-
-add-out : tie.Need-add-out
-add-out c = search needs
-
-mul-out-2 : tie.Need-mul-out-2
-mul-out-2 c = search needs
-
-slice-set-from-out-2 : tie.Need-slice-set-from-out-2
-slice-set-from-out-2 c = simp length-set (omega arith)
-
-number-of-requires-3 : tie.Need-number-of-requires-3
-number-of-requires-3 c κs = search needs
-
-add-out-2 : tie.Need-add-out-2
-add-out-2 c = search needs
-
-mul-out-3 : tie.Need-mul-out-3
-mul-out-3 c = search needs
-
-slice-set-from-out-3 : tie.Need-slice-set-from-out-3
-slice-set-from-out-3 c = simp length-set (omega arith)
+mul-put-row : tie.Need-mul-put-row
+mul-put-row c = search needs
 
 code-at-requires : tie.Need-code-at-requires
 code-at-requires c κs = search needs
 
-production-of-requires : tie.Need-production-of-requires
-production-of-requires c κs =
-    let s = c .before .before .before .before .before .before .before in
-    omega (arith, c .code-at .ensures, fit-at (s .pre .0) (s .args .i) (s .pre .3) .production)
-
-add-t14 : tie.Need-add-t14
-add-t14 c = search needs
-
-mul-t13 : tie.Need-mul-t13
-mul-t13 c = search needs
-
-slice-set-from-out-4 : tie.Need-slice-set-from-out-4
-slice-set-from-out-4 c = simp length-set (omega arith)
+put-row-requires : tie.Need-put-row-requires
+put-row-requires c κs =
+    let v = c .before .before in
+    let g = v .before in
+    let s = g .before .before in
+    let fits = fit-at (s .pre .0) (s .args .i) (s .pre .3) in (
+      s .pre .5,
+      s .pre .2,
+      omega (arith, v .terminal-at .ensures, fits .terminal),
+      g .at .ensures .1,
+      omega (arith, c .code-at .ensures, fits .production),
+    )
 
 same-length : tie.Need-same-length
 same-length c = search needs
 
 returns : tie.Need-returns
 returns c =
-    let k = c .before in
-    let z = k .before in
-    let y = z .before in
-    let v = y .before in
-    let x = v .before in
-    let g = x .before in
+    let k = c .before .before in
+    let v = k .before .before in
+    let g = v .before in
     let t = g .before in
     let s = t .before in
     let a = s .args in
-    let ns = a .rows .now in
-    let r = new-row ns (a .class .now) (a .number .now) (a .f) (a .i) in
+    let r = new-row (a .rows .now) (a .class .now) (a .number .now) (a .f) (a .i) in
     let to : g .at .result ≡ r .to =
     g .at .ensures .0 ∙ ap (λ (m : ℕ). getD (a .number .now) m 0) (t .to-mark .ensures .0) in
-    let fits = fit-at (s .pre .0) (a .i) (s .pre .3) in
-    written-row (a .out .now) (a .o) r _ _ _ _ (s .pre .5)
-    (stored (x .number-of .result) (a .f) (a .f) (x .number-of .ensures) refl (s .pre .2))
-    (stored (y .number-of2 .result) (v .terminal-at .result) (r .terminal) (y .number-of2 .ensures)
-    (v .terminal-at .ensures .is) (omega (arith, v .terminal-at .ensures, fits .terminal)))
-    (stored (z .number-of3 .result) (g .at .result) (r .to) (z .number-of3 .ensures) to (g .at .ensures .1))
-    (stored-production (c .production-of .result) (k .code-at .result) (r .production) (c .production-of .ensures)
-    (k .code-at .ensures .is) (omega (arith, k .code-at .ensures, fits .production)))
+    written-row (a .out .now) _ (a .o) r _ _ _ _ (s .pre .5) refl (v .terminal-at .ensures .is) to
+    (k .code-at .ensures .is) (c .before .put-row .ensures)
 
 pub emit-row-spec : {M : Type 1} → statement M
 emit-row-spec =
@@ -119,23 +73,9 @@ emit-row-spec =
     (tie.spec
     to-mark-requires
     at-requires
-    mul-at
-    number-of-requires
-    mul-out
-    slice-set-from-out
     terminal-at-requires
-    number-of-requires-2
-    add-out
-    mul-out-2
-    slice-set-from-out-2
-    number-of-requires-3
-    add-out-2
-    mul-out-3
-    slice-set-from-out-3
+    mul-put-row
     code-at-requires
-    production-of-requires
-    add-t14
-    mul-t13
-    slice-set-from-out-4
+    put-row-requires
     same-length
     returns)

@@ -10,7 +10,7 @@ use Rattle.text_lines.specs.declared.reading.RowLine.the-variants.{Row}
 use Rattle.text_lines.specs.Reading.{row-from}
 use Rattle.text_laws.specs.Put.{put}
 use Rattle.text_in.specs.Tally.{numbers-from, Ready}
-use Rattle.text_laws.proofs.Put.{put-nil, put-length}
+use Rattle.text_laws.proofs.Put.{put-nil, put-length, put-four}
 use Rattle.rows.proofs.Codes.{code-uncoded}
 use Rattle.text_lines.proofs.Small.{row-from-at}
 use Rattle.text_in.proofs.Filled.{no-bad, row-fit, row-room, next-ready, next-put, none-left}
@@ -68,8 +68,8 @@ room v =
     let b = v .before .before .before .before in
     row-room _ _ _ (omega arith) (b .loop .inv .3) _ _ _ _ _ (read v)
 
-put-numbers-requires : tie.Need-put-numbers-requires Inv-loop μ-loop
-put-numbers-requires c κs =
+put-row-requires : tie.Need-put-row-requires Inv-loop μ-loop
+put-row-requires c κs =
     let v = c .before .before in
     let b = v .before .before .before .before in
     let r = room v in
@@ -99,10 +99,10 @@ loop-again c =
     let e = read v in
     let h = row-from-at _ _ _ _ _ _ _ e in
     let r = room v in
-    let q = w .put-numbers .ensures in
-    let n : length (w .put-numbers .last .0) ≡ length (b .loop .out) =
+    let q = w .put-row .ensures ∙ put-four (b .loop .out) (b .loop .i) _ _ _ _ (omega arith) in
+    let n : length (w .put-row .last .0) ≡ length (b .loop .out) =
     ap length q ∙ put-length (b .loop .out) (b .loop .i) _ (omega arith) in
-    let m : length (b .loop .out) - b .loop .i - 4 ≡ length (w .put-numbers .last .0) - (b .loop .i + 4) =
+    let m : length (b .loop .out) - b .loop .i - 4 ≡ length (w .put-row .last .0) - (b .loop .i + 4) =
     omega arith in (
       h .inside,
       omega arith,
@@ -133,7 +133,7 @@ fill-spec =
     enum-told
     same-length
     returns
-    put-numbers-requires
+    put-row-requires
     add-i
     loop-less
     loop-again

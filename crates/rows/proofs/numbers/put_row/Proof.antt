@@ -1,14 +1,10 @@
--- `text_in::passes::put_numbers` meets its contract. Four stores. Assumes nothing.
+-- `rows::numbers::put_row` meets its contract. Four stores. Assumes nothing.
 use native.Mathlib.Omega.{arith}
 use borrow.Author.Needs.{needs}
 use lib.ListN.{length-set}
-use lib.IntN.{pos}
-use Rattle.paper.specs.Rows.{signed}
-use Rattle.rows.specs.Places.{uncoded}
-use Rattle.text_laws.proofs.Put.{put-four}
-use Rattle.text_in.proofs.Filled.{stored, stored-code}
-use Rattle.text_in.proofs.passes.put_numbers.Statement.{statement}
-use Rattle.text_in.proofs.passes.put_numbers.Tie as tie
+use Rattle.rows.proofs.Signed.{stored, stored-code}
+use Rattle.rows.proofs.numbers.put_row.Statement.{statement}
+use Rattle.rows.proofs.numbers.put_row.Tie as tie
 
 number-of-requires : tie.Need-number-of-requires
 number-of-requires c κs = search needs
@@ -63,15 +59,13 @@ returns c =
     let g = c .before .before .before .before in
     let a = g .args in
     let e₁ = stored (a .from) _ (g .pre .1) (c .before .before .before .number-of .ensures) in
-    let e₂ = stored (a .on) _ (g .pre .2) (c .before .before .number-of2 .ensures) in
+    let e₂ = stored (a .terminal) _ (g .pre .2) (c .before .before .number-of2 .ensures) in
     let e₃ = stored (a .to) _ (g .pre .3) (c .before .number-of3 .ensures) in
     let e₄ = stored-code (a .code) _ (g .pre .4) (c .production-of .ensures) in
     rw (e₁, e₂, e₃, e₄)
-    (put-four (a .out .now) (a .at) (pos (a .from)) (pos (a .on)) (pos (a .to)) (signed (uncoded (a .code)))
-    (g .pre .0))
 
-pub put-numbers-spec : {M : Type 1} → statement M
-put-numbers-spec =
+pub put-row-spec : {M : Type 1} → statement M
+put-row-spec =
     tie.close
     (tie.spec
     number-of-requires
