@@ -1,32 +1,26 @@
 -- Rows moved up from the last down make room, and a row put there is put in.
 -- Assumes nothing.
 use mathlib.Core.Path.{_≡_, refl, ap, sym, _∙_}
-use mathlib.Core.List.{List, [], _∷_, _++_, append-assoc}
+use mathlib.Core.List.{List, _∷_, _++_}
 use Prim.Native.Nat.{ℕ, zero, suc, _+_, _-_, _*_, _<_, _≤_}
 use native.Mathlib.Omega.{arith}
 use native.Mathlib.Nat.{sub-self}
-use lib.ListN.{length, getD, take, drop, set, take-append-drop, List·getD-append}
-use lib.Seq.{drop-cons, length-take-le, getD-take, take-append-le, sets-eq, take-take, take-at, drop-at}
+use lib.ListN.{length, getD, take, drop, take-append-drop, List·getD-append}
+use lib.Seq.{drop-cons, length-take-le, getD-take, take-append-le, take-take, take-at, drop-at}
 use lib.IntN.{ℤ, pos}
 use mir.Syntax.{w32}
 use mir.Val.{toZ, ofZ}
 use Rattle.paper.specs.Rows.{signed}
-use Rattle.rows.specs.Places.{uncoded}
+use Rattle.rows.specs.Places.{uncoded, four}
 use Rattle.rows.proofs.Signed.{same}
+use Rattle.rows.proofs.Four.{four-is}
 use Rattle.grow_laws.specs.Moves.{over-row, up-row, up-four, opened, inserted}
 
 -- four numbers stored one after the other
 pub stored : (l : List ℤ) (i : ℕ) (w x y z : ℤ) → i * 4 + 3 < length l
-    → set (set (set (set l (i * 4) w) (i * 4 + 1) x) (i * 4 + 2) y) (i * 4 + 3) z ≡ over-row l i w x y z
+    → four l (i * 4) w x y z ≡ over-row l i w x y z
 unfolding over-row
-stored l i w x y z h =
-    let b = i * 4 in
-    let e₁ : b + 1 ≡ suc b = omega arith in
-    let e₂ : b + 2 ≡ suc (suc b) = omega arith in
-    let e₃ : b + 3 ≡ suc (suc (suc b)) = omega arith in
-    let m : b + 4 ≤ length l = omega arith in
-    rw (e₁, e₂, e₃) (sets-eq (w ∷ x ∷ y ∷ z ∷ []) l b m
-    ∙ append-assoc (take b l) (w ∷ x ∷ y ∷ z ∷ []) (drop (b + 4) l))
+stored l i w x y z h = four-is l (i * 4) w x y z (omega arith)
 
 next : (l : List ℤ) (k m : ℕ) → k < length l → suc k ≡ m → drop k l ≡ getD l k (pos 0) ∷ drop m l
 next l k m h e = drop-cons l k (pos 0) h ∙ rw e

@@ -20,7 +20,7 @@ is-some (some a) = true
 unfoldable pub starts : List ℕ → List ℕ → Bool
 starts w bs = is-some (past w bs)
 
--- So many digits at a place, and their number; six of more are enough.
+-- So many digits at a place, and their number; a count of six stands for six or more.
 pub record Counts (l : List ℕ) (at count number : ℕ) : Type 0 where
   pub inside : at + count ≤ length l
   pub made : number ≡ value count 0 (drop at l)
