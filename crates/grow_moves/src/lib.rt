@@ -2,6 +2,7 @@
 pub mod down;
 pub mod up;
 
+use rows::numbers;
 ghost use mathlib.Core.Path.{_≡_};
 ghost use Prim.Native.Nat.{_+_, _*_, _<_};
 ghost use lib.ListN.{length};
@@ -12,10 +13,7 @@ fn put_row(buf: &mut [i32], i: usize, w: i32, x: i32, y: i32, z: i32)
     requires { ⌜ i * 4 + 3 < length (now buf) ⌝ }
     ensures { λ _. ⌜ now (buf .exit) ≡ over-row (now (buf .entry)) i w x y z ⌝ }
 {
-    buf[i * 4] = w;
-    buf[i * 4 + 1] = x;
-    buf[i * 4 + 2] = y;
-    buf[i * 4 + 3] = z;
+    numbers::put_four(buf, i * 4, w, x, y, z);
 }
 
 // Row i is copied to row j.

@@ -2,11 +2,11 @@
 use paper::Refusal;
 use rows::numbers;
 ghost use mathlib.Core.Path.{_≡_};
-ghost use Prim.Native.Nat.{_+_, _*_, _<_};
-ghost use lib.ListN.{length};
+ghost use mathlib.Core.Bool.{_&&_};
+ghost use lib.Dec.{leb};
 ghost use Rattle.paper.specs.Rows.{table};
 ghost use Rattle.paper.specs.Checks.{row-slice, row-fits, shape, plain};
-ghost use Rattle.rows.specs.Places.{row-at, bare};
+ghost use Rattle.rows.specs.Places.{row, bare};
 ghost use Rattle.row_checks.specs.Verdicts.{said, of-rows, Judges};
 
 // What the checks say.
@@ -36,21 +36,30 @@ pub fn row_slice(rows: &[i32]) -> bool
     16384 < n
 }
 
-// Row i's numbers are within their bounds.
-fn row_fits(rows: &[i32], i: usize) -> bool
-    requires { ⌜ i * 4 + 3 < length (now rows) ⌝ }
-    ensures { λ r. ⌜ r ≡ row-fits (row-at (now (rows .entry)) i) ⌝ }
+// 2 RANGE: prod0, by its code, and k are within their bounds.
+pub fn head_fits(code: usize, k: usize) -> bool
+    ensures { λ r. ⌜ r ≡ (leb code 65536 && leb k 16) ⌝ }
 {
-    if 1023 < numbers::from_at(rows, i) {
+    if 65536 < code {
         return false;
     }
-    if 65535 < numbers::terminal_at(rows, i) {
+    k <= 16
+}
+
+// 2 RANGE: a row's numbers, its production by its code, are within their bounds.
+pub fn row_fits(from: usize, terminal: usize, to: usize, code: usize) -> bool
+    ensures { λ r. ⌜ r ≡ row-fits (row from terminal to code) ⌝ }
+{
+    if 1023 < from {
         return false;
     }
-    if 1023 < numbers::to_at(rows, i) {
+    if 65535 < terminal {
         return false;
     }
-    numbers::code_at(rows, i) <= 65536
+    if 1023 < to {
+        return false;
+    }
+    code <= 65536
 }
 
 // 2 and 3 of the rows, in one pass: 2 comes first wherever it stands.
@@ -62,10 +71,13 @@ fn in_one_pass(rows: &[i32]) -> Verdict
     let mut above = 0;
     let mut i = 0;
     while i < n {
-        if !row_fits(rows, i) {
+        let from = numbers::from_at(rows, i);
+        let terminal = numbers::terminal_at(rows, i);
+        let to = numbers::to_at(rows, i);
+        if !row_fits(from, terminal, to, numbers::code_at(rows, i)) {
             return Verdict::Refused(Refusal::Range);
         }
-        let key = numbers::from_at(rows, i) * 65536 + numbers::terminal_at(rows, i);
+        let key = from * 65536 + terminal;
         if key < above {
             falls = true;
         }
@@ -94,10 +106,7 @@ pub fn shape(rows: &[i32]) -> bool
 pub fn plain(prod0: i32, k: usize, rows: &[i32]) -> Verdict
     ensures { λ r. ⌜ Judges (plain (table prod0 k (now (rows .entry)))) r ⌝ }
 {
-    if 65536 < numbers::coded(prod0) {
-        return Verdict::Refused(Refusal::Range);
-    }
-    if 16 < k {
+    if !head_fits(numbers::coded(prod0), k) {
         return Verdict::Refused(Refusal::Range);
     }
     in_one_pass(rows)

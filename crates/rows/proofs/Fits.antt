@@ -1,7 +1,7 @@
 -- The tests of RANGE, as the code makes them one after the other.
 -- Assumes nothing.
 use mathlib.Core.Path.{_≡_, refl, sym, ap, _∙_}
-use mathlib.Core.Bool.{true, false, not, _&&_}
+use mathlib.Core.Bool.{Bool, true, false, not, _&&_}
 use mathlib.Core.Option.{Option, none, some}
 use mathlib.Core.List.{List}
 use Prim.Native.Nat.{ℕ, _/_, _≤_, _<_}
@@ -39,20 +39,16 @@ module _ (r : Row) where
   production-left a b c = simp (le-leb _ _ a, le-leb _ _ b, le-leb _ _ c) (code-fits (r .production))
 
 module _ (t : Table) (x : ℕ) (e : x ≡ code (t .prod0)) where
-  in-code : leb x 65536 ≡ production-fits (t .prod0)
-  in-code = ap (λ (n : ℕ). leb n 65536) e ∙ code-fits (t .prod0)
+  head : (leb x 65536 && leb (t .k) 16) ≡ (production-fits (t .prod0) && leb (t .k) 16)
+  head = ap (λ (b : Bool). b && leb (t .k) 16) (ap (λ (n : ℕ). leb n 65536) e ∙ code-fits (t .prod0))
 
-  pub prod0-out : 65536 < x → true ≡ range t
+  pub head-out : (leb x 65536 && leb (t .k) 16) ≡ false → range t ≡ true
   unfolding range
-  prod0-out h = simp (sym in-code ∙ lt-leb _ _ h)
+  head-out h = rw (sym head ∙ h)
 
-  pub k-out : x ≤ 65536 → 16 < t .k → true ≡ range t
+  pub rows-left : (leb x 65536 && leb (t .k) 16) ≡ true → not (every row-fits (t .rows)) ≡ range t
   unfolding range
-  k-out a h = simp (sym in-code ∙ le-leb _ _ a, lt-leb _ _ h)
-
-  pub rows-left : x ≤ 65536 → t .k ≤ 16 → not (every row-fits (t .rows)) ≡ range t
-  unfolding range
-  rows-left a b = simp (sym in-code ∙ le-leb _ _ a, le-leb _ _ b)
+  rows-left h = rw (sym head ∙ h)
 
 -- what a row within its bounds is
 pub record Fit (r : Row) : Type 0 where

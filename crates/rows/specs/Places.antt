@@ -21,6 +21,10 @@ abbrev pub uncoded : ℕ → Option ℕ
 uncoded zero = none
 uncoded (suc q) = some q
 
+-- A row of four numbers, the last its production's code.
+abbrev pub row : ℕ → ℕ → ℕ → ℕ → Row
+row f t g c = record { from = f; terminal = t; to = g; production = uncoded c }
+
 -- The row at place i.
 abbrev pub row-at : List ℤ → ℕ → Row
 row-at ns i = record {

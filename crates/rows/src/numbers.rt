@@ -92,14 +92,25 @@ pub fn key_at(rows: &[i32], i: usize) -> usize
     (rows[i * 4] as usize) * 65536 + (rows[i * 4 + 1] as usize)
 }
 
+// Four numbers, from a place on.
+pub fn put_four(out: &mut [i32], at: usize, a: i32, b: i32, c: i32, d: i32)
+    requires { ⌜ at + 4 ≤ length (now out) ⌝ }
+    ensures { λ _. ⌜ now (out .exit) ≡ four (now (out .entry)) at a b c d ⌝ }
+{
+    out[at] = a;
+    out[at + 1] = b;
+    out[at + 2] = c;
+    out[at + 3] = d;
+}
+
 // The numbers of a row, from a place on; its production by its code.
 pub fn put_row(out: &mut [i32], at: usize, from: usize, terminal: usize, to: usize, code: usize)
     requires { ⌜ (at + 4 ≤ length (now out)) × (from ≤ 65535) × (terminal ≤ 65535) × (to ≤ 65535) × (code ≤ 65536) ⌝ }
     ensures { λ _. ⌜ now (out .exit)
         ≡ four (now (out .entry)) at (pos from) (pos terminal) (pos to) (signed (uncoded code)) ⌝ }
 {
-    out[at] = number_of(from);
-    out[at + 1] = number_of(terminal);
-    out[at + 2] = number_of(to);
-    out[at + 3] = production_of(code);
+    let a = number_of(from);
+    let b = number_of(terminal);
+    let c = number_of(to);
+    put_four(out, at, a, b, c, production_of(code));
 }

@@ -13,7 +13,8 @@ use Rattle.rows.proofs.Rest.{both}
 use Rattle.text_lines.specs.declared.reading.RowLine.the-variants as row-line
 use Rattle.text_laws.specs.Put.{put}
 use Rattle.text_lines.specs.Reading.{row-from}
-use Rattle.text_laws.specs.Written.{row, row-numbers}
+use Rattle.rows.specs.Places.{row}
+use Rattle.text_laws.specs.Written.{row-numbers}
 use Rattle.text_in.specs.Tally.{rows-read, taken, numbers-from, Ready}
 use Rattle.text_laws.proofs.Never.{refuse-accept}
 use Rattle.text_laws.proofs.Put.{put-put}

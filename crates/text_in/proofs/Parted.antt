@@ -13,12 +13,12 @@ use lib.Seq.{drop-drop}
 use Rattle.paper.specs.Rows.{Table, table, natural, signed}
 use Rattle.paper.specs.Answers.{Ruling, accept, refuse, then}
 use Rattle.paper.specs.Text.{Line, longer, lines, Piece, read, read-line, read-rows, read-lines, row-form, head-form}
-use Rattle.rows.specs.Places.{uncoded}
+use Rattle.rows.specs.Places.{uncoded, row}
 use Rattle.rows.proofs.Rest.{by-test}
 use Rattle.text_lines.specs.declared.reading.RowLine.the-variants as row-line
 use Rattle.text_lines.specs.declared.reading.HeadLine.the-variants as head-line
 use Rattle.text_lines.specs.Reading.{front, line-end, row-from, head-from}
-use Rattle.text_laws.specs.Written.{row, row-numbers}
+use Rattle.text_laws.specs.Written.{row-numbers}
 use Rattle.text_in.specs.Tally.{rows-read}
 use Rattle.text_lines.proofs.Told.{row-told, row-is-read, head-told, head-is-read}
 use Rattle.text_lines.proofs.Small.{head-from-at}

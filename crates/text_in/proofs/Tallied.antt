@@ -7,11 +7,11 @@ use lib.ListN.{length}
 use Rattle.laws.proofs.RowNumbers.{accepting-signed}
 use Rattle.paper.specs.Rows.{Row, rows-in}
 use Rattle.paper.specs.Answers.{Ruling, accept, refuse, then}
-use Rattle.rows.specs.Places.{uncoded}
+use Rattle.rows.specs.Places.{uncoded, row}
 use Rattle.text_lines.specs.declared.reading.RowLine.the-variants as row-line
 use Rattle.text_in.specs.declared.passes.Tally.{Tally}
 use Rattle.text_lines.specs.Reading.{row-from}
-use Rattle.text_laws.specs.Written.{row, row-numbers}
+use Rattle.text_laws.specs.Written.{row-numbers}
 use Rattle.text_in.specs.Tally.{rows-read, tallied, tally, tally-from}
 use Rattle.text_in.proofs.Parted.{rows-end, rows-bad, rows-row}
 use Rattle.text_lines.proofs.Small.{row-from-at}

@@ -8,25 +8,9 @@ use text_lines::reading::HeadLine;
 
 mod passes;
 
-ghost use mathlib.Core.Path.{_≡_};
-ghost use mathlib.Core.Bool.{_&&_};
 ghost use lib.ListN.{length};
-ghost use lib.Dec.{leb};
 ghost use Rattle.paper.specs.Answers.{Reads};
 ghost use Rattle.paper.specs.Text.{text-in};
-
-// Whether prod0, by its code, and k are within bounds, as the rows are.
-fn ranged(code: usize, k: usize, fits: bool) -> bool
-    ensures { λ r. ⌜ r ≡ ((leb code 65536 && leb k 16) && fits) ⌝ }
-{
-    if 65536 < code {
-        return false;
-    }
-    if 16 < k {
-        return false;
-    }
-    fits
-}
 
 // Text in: the rows of a text at the front of the output.
 pub fn text_in(text: &[u8], out: &mut [i32]) -> Reading
@@ -46,7 +30,8 @@ pub fn text_in(text: &[u8], out: &mut [i32]) -> Reading
     if 4096 < tally.rows {
         return Reading::Refused(Refusal::Length);
     }
-    if !ranged(code, k, tally.fits) {
+    let fits = row_checks::head_fits(code, k);
+    if !passes::both(fits, tally.fits) {
         return Reading::Refused(Refusal::Range);
     }
     if !tally.rising {

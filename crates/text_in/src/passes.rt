@@ -6,9 +6,8 @@ ghost use mathlib.Core.Path.{_≡_};
 ghost use mathlib.Core.Bool.{_&&_};
 ghost use Prim.Native.Nat.{_+_, _<_, _≤_};
 ghost use lib.ListN.{length};
-ghost use Rattle.paper.specs.Checks.{row-fits};
 ghost use Rattle.text_laws.specs.Put.{put};
-ghost use Rattle.text_laws.specs.Written.{row};
+ghost use Rattle.rows.specs.Places.{row};
 ghost use Rattle.text_in.specs.Tally.{tallied, tally-from, start, scanned, numbers-from, Ready};
 
 // What is known of the rows so far: how many, whether all are within bounds, whether their keys
@@ -26,26 +25,10 @@ pub enum Pass {
     Bad(usize),
 }
 
-fn both(a: bool, b: bool) -> bool
+pub fn both(a: bool, b: bool) -> bool
     ensures { λ r. ⌜ r ≡ a && b ⌝ }
 {
     if a { b } else { false }
-}
-
-// A row is within its bounds.
-fn row_fits(from: usize, on: usize, to: usize, code: usize) -> bool
-    ensures { λ r. ⌜ r ≡ row-fits (row from on to code) ⌝ }
-{
-    if 1023 < from {
-        return false;
-    }
-    if 65535 < on {
-        return false;
-    }
-    if 1023 < to {
-        return false;
-    }
-    code <= 65536
 }
 
 // One row more.
@@ -54,7 +37,7 @@ fn tallied(tally: Tally, from: usize, on: usize, to: usize, code: usize) -> Tall
     ensures { λ r. ⌜ r ≡ tallied tally (row from on to code) ⌝ }
 {
     let key = from * 65536 + on;
-    let fits = both(tally.fits, row_fits(from, on, to, code));
+    let fits = both(tally.fits, row_checks::row_fits(from, on, to, code));
     let rising = both(tally.rising, tally.least <= key);
     Tally {
         rows: tally.rows + 1,

@@ -4,7 +4,6 @@ use mathlib.Core.List.{List, [], _∷_, _++_}
 use lib.IntN.{ℤ, pos}
 use Rattle.paper.specs.Rows.{Row, signed}
 use Rattle.paper.specs.Text.{write, head-form, row-form}
-use Rattle.rows.specs.Places.{uncoded}
 
 -- The head line with its LF.
 unfoldable pub head-text : ℤ → ℕ → List ℕ
@@ -22,7 +21,3 @@ row-text r = write row-form (row-numbers r) ++ (10 ∷ [])
 unfoldable pub rows-text : List Row → List ℕ
 rows-text [] = []
 rows-text (r ∷ rs) = row-text r ++ rows-text rs
-
--- A row of four numbers, the last its production's code.
-abbrev pub row : ℕ → ℕ → ℕ → ℕ → Row
-row f t g c = record { from = f; terminal = t; to = g; production = uncoded c }

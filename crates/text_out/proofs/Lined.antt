@@ -5,18 +5,11 @@ use mathlib.Core.List.{List, [], _++_}
 use native.Mathlib.Omega.{arith}
 use lib.ListN.{length, length-append}
 use lib.IntN.{ℤ}
-use Rattle.paper.specs.Rows.{Row}
-use Rattle.rows.specs.Places.{code, row-at, rest}
-use Rattle.rows.proofs.Codes.{uncoded-code}
+use Rattle.rows.specs.Places.{row-at, rest}
 use Rattle.rows.proofs.Rest.{rest-cons, rest-end}
 use Rattle.text_laws.specs.Put.{put, Puts}
-use Rattle.text_laws.specs.Written.{row, row-text, rows-text}
+use Rattle.text_laws.specs.Written.{row-text, rows-text}
 use Rattle.text_laws.proofs.Put.{put-put}
-
--- the row whose numbers were read
-pub row-as : (r : Row) (f t g c : ℕ) → f ≡ r .from → t ≡ r .terminal → g ≡ r .to → c ≡ code (r .production) →
-    row f t g c ≡ r
-row-as r f t g c e₁ e₂ e₃ e₄ = rw (e₁, e₂, e₃, e₄, uncoded-code (r .production))
 
 rows-next : (ns : List ℤ) (i : ℕ) → i * 4 + 3 < length ns →
     rows-text (rest ns i) ≡ row-text (row-at ns i) ++ rows-text (rest ns (i + 1))

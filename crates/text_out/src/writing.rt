@@ -8,9 +8,9 @@ ghost use lib.ListN.{length};
 ghost use Rattle.paper.specs.Rows.{signed, rows-in};
 ghost use Rattle.paper.specs.Checks.{every, row-fits};
 ghost use Rattle.paper.specs.Text.{digits, decimal};
-ghost use Rattle.rows.specs.Places.{uncoded};
+ghost use Rattle.rows.specs.Places.{uncoded, row};
 ghost use Rattle.text_laws.specs.Put.{Puts};
-ghost use Rattle.text_laws.specs.Written.{head-text, row-text, rows-text, row};
+ghost use Rattle.text_laws.specs.Written.{head-text, row-text, rows-text};
 
 // A word.
 pub fn put_word(out: &mut [u8], at: usize, word: &[u8]) -> usize

@@ -2,7 +2,9 @@
 -- is ruled out. Assumes nothing.
 use Prim.Native.Nat.{ℕ, _≤_}
 use mathlib.Core.Path.{_≡_, ap, sym, _∙_}
+use mathlib.Core.Bool.{Bool, true, _&&_}
 use mathlib.Core.List.{List}
+use lib.Dec.{leb}
 use lib.ListN.{length}
 use borrow.Author.Tests.{not-true, not-false}
 use borrow.Author.Needs.{needs}
@@ -98,60 +100,77 @@ returns-4 c =
     let z = seen s in
     refused Length (in-many _ _ (z .wide) _ _ _ (z .head) _ (z .all) (c .if2 .taken))
 
-ranged-requires : tie.Need-ranged-requires
-ranged-requires c κs = search needs
+head-fits-requires : tie.Need-head-fits-requires
+head-fits-requires c κs = search needs
+
+both-requires : tie.Need-both-requires
+both-requires c κs = search needs
+
+-- what both tests of RANGE say
+ranged : (q : tie.After-both) →
+    let f = q .before .before in
+    let s = f .before .before .before in
+    let v = s .before .before .before .before in
+    let g = v .code .given .0 in
+    q .both .result ≡ ((leb (g .0) 65536 && leb (g .1 .0) 16) && s .tally .given .0 .0 .fits)
+ranged q =
+    let s = q .before .before .before .before .before in
+    q .both .ensures ∙ ap (λ (b : Bool). b && s .tally .given .0 .0 .fits) (q .before .head-fits .ensures)
 
 returns-5 : tie.Need-returns-5
 returns-5 c =
-    let s = c .before .before .before .before .before in
-    let z = seen s in
     let q = c .before in
-    let out = sym (q .ranged .ensures) ∙ not-true (q .ranged .result) (c .if3 .taken) in
-    refused Range (in-range _ _ (z .wide) _ _ _ (z .head) _ (z .all) (q .before .if2 .left) out)
+    let f = q .before .before in
+    let z = seen (f .before .before .before) in
+    let out = sym (ranged q) ∙ not-true (q .both .result) (c .if3 .taken) in
+    refused Range (in-range _ _ (z .wide) _ _ _ (z .head) _ (z .all) (f .if2 .left) out)
+
+-- what is known once the rows are few and within their bounds
+within : (c : tie.Else3) →
+    let q = c .before in
+    let s = q .before .before .before .before .before in
+    let v = s .before .before .before .before in
+    let g = v .code .given .0 in
+    ((leb (g .0) 65536 && leb (g .1 .0) 16) && s .tally .given .0 .0 .fits) ≡ true
+within c = sym (ranged (c .before)) ∙ not-false (c .before .both .result) (c .if3 .left)
 
 returns-6 : tie.Need-returns-6
 returns-6 c =
-    let s = c .before .before .before .before .before .before .before in
+    let e = c .before .before in
+    let f = e .before .before .before in
+    let s = f .before .before .before in
     let z = seen s in
-    let q = c .before .before .before in
-    let ranged = sym (q .ranged .ensures) ∙ not-false (q .ranged .result) (c .before .before .if3 .left) in
     let fallen = not-true (s .tally .given .0 .0 .rising) (c .if4 .taken) in
-    refused Order (in-order _ _ (z .wide) _ _ _ (z .head) _ (z .all) (q .before .if2 .left) ranged fallen)
+    refused Order (in-order _ _ (z .wide) _ _ _ (z .head) _ (z .all) (f .if2 .left) (within e) fallen)
 
 fill-requires : tie.Need-fill-requires
 fill-requires c κs =
-    let s = c .before .before .before .before .before .before .before .before in
-    let z = seen s in
-    let q = c .before .before .before .before in
-    let ranged = sym (q .ranged .ensures) ∙ not-false (q .ranged .result) (c .before .before .before .if3 .left) in
-    (head-from-at _ _ _ _ (z .head) .inside, ready _ _ (z .wide) _ _ _ (z .head) _ (z .all) (q .before .if2 .left) ranged)
+    let e = c .before .before .before in
+    let f = e .before .before .before in
+    let z = seen (f .before .before .before) in
+    (head-from-at _ _ _ _ (z .head) .inside, ready _ _ (z .wide) _ _ _ (z .head) _ (z .all) (f .if2 .left) (within e))
 
 production-of-requires : tie.Need-production-of-requires
 production-of-requires c κs =
-    let s = c .before .before .before .before .before .before .before .before .before .before in
-    let z = seen s in
-    let q = c .before .before .before .before .before .before in
-    let ranged =
-    sym (q .ranged .ensures)
-    ∙ not-false (q .ranged .result) (c .before .before .before .before .before .if3 .left) in
-    code-small _ _ (z .wide) _ _ _ (z .head) _ (z .all) (q .before .if2 .left) ranged
+    let e = c .before .before .before .before .before in
+    let f = e .before .before .before in
+    let z = seen (f .before .before .before) in
+    code-small _ _ (z .wide) _ _ _ (z .head) _ (z .all) (f .if2 .left) (within e)
 
 same-length : tie.Need-same-length
 same-length c = search needs
 
 returns-7 : tie.Need-returns-7
 returns-7 c =
-    let s = c .before .before .before .before .before .before .before .before .before .before .before in
+    let e = c .before .before .before .before .before .before in
+    let f = e .before .before .before in
+    let s = f .before .before .before in
     let z = seen s in
-    let q = c .before .before .before .before .before .before .before in
-    let ranged =
-    sym (q .ranged .ensures)
-    ∙ not-false (q .ranged .result) (c .before .before .before .before .before .before .if3 .left) in
-    let few = q .before .if2 .left in
+    let few = f .if2 .left in
     let risen = not-false (s .tally .given .0 .0 .rising) (c .before .before .before .before .if4 .left) in
-    let small = code-small _ _ (z .wide) _ _ _ (z .head) _ (z .all) few ranged in
+    let small = code-small _ _ (z .wide) _ _ _ (z .head) _ (z .all) few (within e) in
     let prod0 = stored-code _ _ small (c .production-of .ensures) in
-    in-table _ _ (z .wide) _ _ _ (z .head) _ (z .all) few ranged risen _ _ _ prod0 (c .before .before .fill .ensures)
+    in-table _ _ (z .wide) _ _ _ (z .head) _ (z .all) few (within e) risen _ _ _ prod0 (c .before .before .fill .ensures)
 
 pub text-in-spec : {M : Type 1} → statement M
 text-in-spec =
@@ -167,7 +186,8 @@ text-in-spec =
     enum-known-at
     returns-3
     returns-4
-    ranged-requires
+    head-fits-requires
+    both-requires
     returns-5
     returns-6
     fill-requires

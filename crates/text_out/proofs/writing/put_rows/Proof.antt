@@ -6,12 +6,13 @@ use mathlib.Core.List.{[]}
 use native.Mathlib.Omega.{arith}
 use lib.ListN.{length}
 use Rattle.paper.specs.Rows.{rows-in}
-use Rattle.rows.specs.Places.{row-at, rest}
+use Rattle.rows.specs.Places.{row, row-at, rest}
+use Rattle.rows.proofs.Codes.{row-as}
 use Rattle.rows.proofs.Fits.{fits-at}
 use Rattle.text_laws.specs.Put.{put, Puts}
-use Rattle.text_laws.specs.Written.{row, row-text, rows-text}
+use Rattle.text_laws.specs.Written.{row-text, rows-text}
 use Rattle.text_laws.proofs.Put.{put-nil}
-use Rattle.text_out.proofs.Lined.{row-as, rows-none, turn-holds, turn-place}
+use Rattle.text_out.proofs.Lined.{rows-none, turn-holds, turn-place}
 use Rattle.text_out.proofs.writing.put_rows.Statement.{statement}
 use Rattle.text_out.proofs.writing.put_rows.Tie as tie
 
