@@ -25,6 +25,7 @@ pub enum Pass {
     Bad(usize),
 }
 
+// Both are true.
 pub fn both(a: bool, b: bool) -> bool
     ensures { λ r. ⌜ r ≡ a && b ⌝ }
 {

@@ -19,10 +19,8 @@ same-length c = search needs
 returns : tie.Need-returns
 returns c =
     let s = c .before .before .before .before .before .before .before in
-    let m = rw (c .before .before .before .before .before .mode-of .ensures) at
-    (c .before .before .before .batch .ensures) in
-    let m = rw (same (s .args .prod0) (s .fits .prod0)) at m in
-    written-hands _ _ _ _ _ _ m (c .wrote .ensures)
+    rw (← (c .before .before .before .before .before .mode-of .ensures), ← same (s .args .prod0) (s .fits .prod0))
+    (written-hands _ _ _ _ _ _ (c .before .before .before .batch .ensures) (c .wrote .ensures))
 
 pub lookahead-batch-spec : {M : Type 1} → statement M
 lookahead-batch-spec =

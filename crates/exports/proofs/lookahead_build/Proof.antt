@@ -17,8 +17,8 @@ same-length c = search needs
 returns : tie.Need-returns
 returns c =
     let s = c .before .before .before .before .before .before .before in
-    let m = rw (same (s .args .production) (s .fits .production)) at (c .before .before .before .build .ensures) in
-    table-hands _ _ _ _ _ _ (build-fits _ _ _ _) m (c .made .ensures)
+    rw (← same (s .args .production) (s .fits .production))
+    (table-hands _ _ _ _ _ _ (build-fits _ _ _ _) (c .before .before .before .build .ensures) (c .made .ensures))
 
 pub lookahead-build-spec : {M : Type 1} → statement M
 lookahead-build-spec = tie.close (tie.spec build-requires made-requires same-length returns)

@@ -12,7 +12,7 @@ explained-requires c κs = search needs
 returns : tie.Need-returns
 returns c =
     let s = c .before .before .before .before in
-    rw (rw (same (s .args .prod0) (s .fits .prod0)) at (c .before .before .matched .ensures)) at (c .explained .ensures)
+    rw (← same (s .args .prod0) (s .fits .prod0), ← (c .before .before .matched .ensures)) (c .explained .ensures)
 
 pub lookahead-explain-spec : {M : Type 1} → statement M
 lookahead-explain-spec = tie.close (tie.spec matched-requires explained-requires returns)

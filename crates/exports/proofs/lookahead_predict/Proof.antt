@@ -15,8 +15,12 @@ predicted-requires c κs = search needs
 returns : tie.Need-returns
 returns c =
     let s = c .before .before .before .before .before in
-    let e = rw (c .before .before .before .mode-of .ensures) at (c .before .before .predict .ensures) in
-    rw (rw (same (s .args .prod0) (s .fits .prod0)) at e) at (c .predicted .ensures)
+    rw (
+      ← (c .before .before .before .mode-of .ensures),
+      ← same (s .args .prod0) (s .fits .prod0),
+      ← (c .before .before .predict .ensures),
+    )
+    (c .predicted .ensures)
 
 pub lookahead-predict-spec : {M : Type 1} → statement M
 lookahead-predict-spec =

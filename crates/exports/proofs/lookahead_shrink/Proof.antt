@@ -20,9 +20,8 @@ same-length c = search needs
 returns : tie.Need-returns
 returns c =
     let s = c .before .before .before .before .before .before in
-    let m = rw (c .before .before .before .before .before .mode-of .ensures) at (c .before .before .before .shrink .ensures) in
-    let m = rw (same (s .args .prod0) (s .fits .prod0)) at m in
-    table-hands _ _ _ _ _ _ (shrink-fits _ _ _ _ _) m (c .made .ensures)
+    rw (← (c .before .before .before .before .before .mode-of .ensures), ← same (s .args .prod0) (s .fits .prod0))
+    (table-hands _ _ _ _ _ _ (shrink-fits _ _ _ _ _) (c .before .before .before .shrink .ensures) (c .made .ensures))
 
 pub lookahead-shrink-spec : {M : Type 1} → statement M
 lookahead-shrink-spec =

@@ -13,8 +13,9 @@ put-requires c κs = search needs
 returns : tie.Need-returns
 returns c =
     let s = c .before .before .before .before in
-    let p = rw (same (s .args .prod0) (s .fits .prod0)) at (c .before .before .place .ensures) in
-    second-is _ _ _ _ _ (first-is _ _ _ _ (c .put .ensures) (p .starts)) (p .counts)
+    let p = c .before .before .place .ensures in
+    rw (← same (s .args .prod0) (s .fits .prod0))
+    (second-is _ _ _ _ _ (first-is _ _ _ _ (c .put .ensures) (p .starts)) (p .counts))
 
 pub lookahead-stretch-spec : {M : Type 1} → statement M
 lookahead-stretch-spec = tie.close (tie.spec place-requires put-requires returns)

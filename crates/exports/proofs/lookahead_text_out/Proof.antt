@@ -16,8 +16,8 @@ same-length c = search needs
 returns : tie.Need-returns
 returns c =
     let s = c .before .before .before .before .before .before .before in
-    let m = rw (same (s .args .prod0) (s .fits .prod0)) at (c .before .before .before .before .text-out .ensures) in
-    written-hands _ _ _ _ _ _ m (c .wrote .ensures)
+    rw (← same (s .args .prod0) (s .fits .prod0))
+    (written-hands _ _ _ _ _ _ (c .before .before .before .before .text-out .ensures) (c .wrote .ensures))
 
 pub lookahead-text-out-spec : {M : Type 1} → statement M
 lookahead-text-out-spec = tie.close (tie.spec text-out-requires wrote-requires same-length returns)

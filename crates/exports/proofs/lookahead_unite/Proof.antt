@@ -20,10 +20,12 @@ same-length c = search needs
 returns : tie.Need-returns
 returns c =
     let s = c .before .before .before .before .before .before in
-    let m = rw (c .before .before .before .before .before .mode-of .ensures) at (c .before .before .before .unite .ensures) in
-    let m = rw (same (s .args .prod0a) (s .fits .prod0a)) at m in
-    let m = rw (same (s .args .prod0b) (s .fits .prod0b)) at m in
-    table-hands _ _ _ _ _ _ (unite-fits _ _ _ _ _ _ _ _) m (c .made .ensures)
+    rw (
+      ← (c .before .before .before .before .before .mode-of .ensures),
+      ← same (s .args .prod0a) (s .fits .prod0a),
+      ← same (s .args .prod0b) (s .fits .prod0b),
+    )
+    (table-hands _ _ _ _ _ _ (unite-fits _ _ _ _ _ _ _ _) (c .before .before .before .unite .ensures) (c .made .ensures))
 
 pub lookahead-unite-spec : {M : Type 1} → statement M
 lookahead-unite-spec =
