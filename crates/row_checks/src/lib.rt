@@ -3,10 +3,12 @@ use paper::Refusal;
 use rows::numbers;
 ghost use mathlib.Core.Path.{_≡_};
 ghost use mathlib.Core.Bool.{_&&_};
+ghost use Prim.Native.Nat.{_+_, _*_, _<_};
+ghost use lib.ListN.{length};
 ghost use lib.Dec.{leb};
 ghost use Rattle.paper.specs.Rows.{table};
 ghost use Rattle.paper.specs.Checks.{row-slice, row-fits, shape, plain};
-ghost use Rattle.rows.specs.Places.{row, bare};
+ghost use Rattle.rows.specs.Places.{row, row-at, bare};
 ghost use Rattle.row_checks.specs.Verdicts.{said, of-rows, Judges};
 
 // What the checks say.
@@ -62,6 +64,17 @@ pub fn row_fits(from: usize, terminal: usize, to: usize, code: usize) -> bool
     code <= 65536
 }
 
+// Row i is within its bounds. Its numbers are read here and again for its key: so a compiler tests them as they stand.
+fn fits_at(rows: &[i32], i: usize) -> bool
+    requires { ⌜ i * 4 + 3 < length (now rows) ⌝ }
+    ensures { λ r. ⌜ r ≡ row-fits (row-at (now (rows .entry)) i) ⌝ }
+{
+    let from = numbers::from_at(rows, i);
+    let terminal = numbers::terminal_at(rows, i);
+    let to = numbers::to_at(rows, i);
+    row_fits(from, terminal, to, numbers::code_at(rows, i))
+}
+
 // 2 and 3 of the rows, in one pass: 2 comes first wherever it stands.
 fn in_one_pass(rows: &[i32]) -> Verdict
     ensures { λ r. ⌜ Judges (of-rows (now (rows .entry))) r ⌝ }
@@ -71,13 +84,10 @@ fn in_one_pass(rows: &[i32]) -> Verdict
     let mut above = 0;
     let mut i = 0;
     while i < n {
-        let from = numbers::from_at(rows, i);
-        let terminal = numbers::terminal_at(rows, i);
-        let to = numbers::to_at(rows, i);
-        if !row_fits(from, terminal, to, numbers::code_at(rows, i)) {
+        if !fits_at(rows, i) {
             return Verdict::Refused(Refusal::Range);
         }
-        let key = from * 65536 + terminal;
+        let key = numbers::from_at(rows, i) * 65536 + numbers::terminal_at(rows, i);
         if key < above {
             falls = true;
         }

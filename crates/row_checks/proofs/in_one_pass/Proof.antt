@@ -10,7 +10,6 @@ use Rattle.paper.specs.declared.Refusal.the-variants.{Range, Order}
 use Rattle.paper.specs.Rows.{rows-in}
 use Rattle.paper.specs.Checks.{every, row-fits, order}
 use Rattle.rows.specs.Places.{row-at, rest, key}
-use Rattle.rows.proofs.Codes.{row-as}
 use Rattle.rows.proofs.Rest.{every-next, every-fails, every-end}
 use Rattle.row_checks.proofs.Judged.{refuses, next-check, last-check}
 use Rattle.row_checks.proofs.OnePass as pass
@@ -29,54 +28,30 @@ abbrev μ-loop : tie.MeasureT-loop
 loop-holds : tie.Need-loop-holds Inv-loop μ-loop
 loop-holds c = (refl, refl, λ f. refl)
 
+fits-at-requires : tie.Need-fits-at-requires Inv-loop μ-loop
+fits-at-requires c κs = search needs
+
+returns : tie.Need-returns Inv-loop μ-loop
+returns c =
+    let l = c .before .before .before in
+    let e = sym (c .before .fits-at .ensures) ∙ not-true _ (c .if1 .taken) in
+    refuses Range refl refl
+    (ap not (l .loop .inv .0 ∙ every-fails row-fits (l .before .args .rows .now) (l .loop .i) (omega arith) e))
+
 from-at-requires : tie.Need-from-at-requires Inv-loop μ-loop
 from-at-requires c κs = search needs
+
+mul-key : tie.Need-mul-key Inv-loop μ-loop
+mul-key c = omega (arith, c .from-at .ensures .small)
 
 terminal-at-requires : tie.Need-terminal-at-requires Inv-loop μ-loop
 terminal-at-requires c κs = search needs
 
-to-at-requires : tie.Need-to-at-requires Inv-loop μ-loop
-to-at-requires c κs = search needs
-
-code-at-requires : tie.Need-code-at-requires Inv-loop μ-loop
-code-at-requires c κs = search needs
-
-row-fits-requires : tie.Need-row-fits-requires Inv-loop μ-loop
-row-fits-requires c κs = search needs
-
--- the numbers that were read are row i's
-tested : (c : tie.After-row-fits Inv-loop μ-loop) →
-    let l = c .before .before .before .before .before .before in
-    c .row-fits .result ≡ row-fits (row-at (l .before .args .rows .now) (l .loop .i))
-tested c =
-    let d = c .before in
-    let l = d .before .before .before .before .before in
-    c .row-fits .ensures
-    ∙ ap row-fits (row-as (row-at (l .before .args .rows .now) (l .loop .i)) _ _ _ _
-    (d .before .before .before .from-at .ensures .is) (d .before .before .terminal-at .ensures .is)
-    (d .before .to-at .ensures .is) (d .code-at .ensures .is))
-
-returns : tie.Need-returns Inv-loop μ-loop
-returns c =
-    let l = c .before .before .before .before .before .before .before in
-    let e = sym (tested (c .before)) ∙ not-true _ (c .if1 .taken) in
-    refuses Range refl refl
-    (ap not (l .loop .inv .0 ∙ every-fails row-fits (l .before .args .rows .now) (l .loop .i) (omega arith) e))
-
-mul-key : tie.Need-mul-key Inv-loop μ-loop
-mul-key c =
-    let d = c .before .before in
-    omega (arith, d .before .before .before .from-at .ensures .small)
-
 add-key : tie.Need-add-key Inv-loop μ-loop
-add-key c =
-    let d = c .before .before in
-    omega (arith, d .before .before .before .from-at .ensures .small, d .before .before .terminal-at .ensures .small)
+add-key c = omega (arith, c .before .from-at .ensures .small, c .terminal-at .ensures .small)
 
 add-above : tie.Need-add-above Inv-loop μ-loop
-add-above c =
-    let d = c .before .before .before in
-    omega (arith, d .before .before .before .from-at .ensures .small, d .before .before .terminal-at .ensures .small)
+add-above c = omega (arith, c .before .before .from-at .ensures .small, c .before .terminal-at .ensures .small)
 
 add-i : tie.Need-add-i Inv-loop μ-loop
 add-i c = search needs
@@ -86,15 +61,14 @@ loop-less c = search needs
 
 loop-again : tie.Need-loop-again Inv-loop μ-loop
 loop-again c =
-    let g = c .before in
-    let d = g .before .before in
-    let l = d .before .before .before .before .before in
+    let t = c .before in
+    let g = t .before .before in
+    let l = g .before .before .before in
     let ns = l .before .args .rows .now in
     let i = l .loop .i in
-    let e = sym (tested (g .before)) ∙ not-false _ (g .if1 .left) in
-    let f = d .before .before .before .from-at in
-    let t = d .before .before .terminal-at in
-    let k : f .result * 65536 + t .result ≡ key (row-at ns i) = omega (arith, f .ensures .is, t .ensures .is) in (
+    let e = sym (g .before .fits-at .ensures) ∙ not-false _ (g .if1 .left) in
+    let k : t .before .from-at .result * 65536 + t .terminal-at .result ≡ key (row-at ns i) =
+    omega (arith, t .before .from-at .ensures .is, t .terminal-at .ensures .is) in (
       l .loop .inv .0 ∙ every-next row-fits ns i (omega arith) e,
       pass.above-next ns i _ k,
       pass.risen-next ns (l .loop .falls) (c .if2 .falls) i _ (omega arith) k
@@ -124,13 +98,11 @@ in-one-pass-spec =
     Inv-loop
     μ-loop
     loop-holds
-    from-at-requires
-    terminal-at-requires
-    to-at-requires
-    code-at-requires
-    row-fits-requires
+    fits-at-requires
     returns
+    from-at-requires
     mul-key
+    terminal-at-requires
     add-key
     add-above
     add-i
