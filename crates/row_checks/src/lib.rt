@@ -64,7 +64,7 @@ pub fn row_fits(from: usize, terminal: usize, to: usize, code: usize) -> bool
     code <= 65536
 }
 
-// The same of row i: each number is tested as it is read, which takes a third less time than reading all four first.
+// The same of row i: each number is tested as it is read; reading all four first was measured as slower.
 fn fits_at(rows: &[i32], i: usize) -> bool
     requires { ⌜ i * 4 + 3 < length (now rows) ⌝ }
     ensures { λ r. ⌜ r ≡ row-fits (row-at (now (rows .entry)) i) ⌝ }
