@@ -61,7 +61,7 @@ fn lengths(k: usize, count: usize, tokens: usize, room: usize) -> bool
     room < count
 }
 
-// The answer for the window at a place, over a table that passed 1 to 3.
+// The answer for the window at a place, over a table that passed 2 and 3.
 fn window(
     mode: Mode,
     prod0: i32,

@@ -23,7 +23,7 @@ pub struct Stop {
     pub more: bool,
 }
 
-// The walk over all tokens to the first without a row, in rows that passed 1 to 3.
+// The walk over all tokens to the first without a row, in rows that passed 2 and 3.
 fn walked(rows: &[i32], tokens: &[u16]) -> Stop
     requires { ⌜ Passed (now rows) ⌝ }
     ensures { λ r. ⌜ stopped r ≡ stop (rows-in (now (rows .entry))) 0 0 (now (tokens .entry)) ⌝ }
@@ -72,7 +72,7 @@ pub struct Part {
     pub count: usize,
 }
 
-// The rows that leave the state where a walk stopped, in rows that passed 1 to 3.
+// The rows that leave the state where a walk stopped, in rows that passed 2 and 3.
 fn left_rows(rows: &[i32], s: Stop) -> Part
     requires { ⌜ Passed (now rows) ⌝ }
     ensures { λ r. ⌜ Lies (now (rows .entry)) (left-rows (now (rows .entry)) (rows-in (now (rows .entry))) (stopped s)) r ⌝ }

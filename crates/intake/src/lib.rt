@@ -41,8 +41,8 @@ fn shrunk(
 
 // The lists built, united one after the other and shrunk, all in intake mode. List i has the production
 // productions[i] and counts[i] strings; their lengths follow one another in lengths, their tokens in tokens.
-// Demand 3 of this call is `intake-answers` of crates/intake_lists/proofs/Demand.antt, by way of `intake-demand3`; that the order of the
-// lists changes no answer is `intake-any-order`.
+// Demand 3 of this call is `intake-answers` of crates/intake_lists/proofs/Demand.antt, by way of `intake-demand3`; that
+// the order of the lists changes no answer is `intake-any-order`.
 pub fn shrunk_table(
     productions: &[i32],
     counts: &[usize],

@@ -2,7 +2,7 @@
 -- within document 01's bounds with at most 1,024 distinct beginnings that ruling is what demand 3 asks.
 -- Assumes nothing.
 use mathlib.Core.Path.{_≡_, refl}
-use mathlib.Core.List.{List, [], _∷_, List·Memᴰ}
+use mathlib.Core.List.{List, [], _∷_}
 use Prim.Native.Nat.{ℕ, _*_, _≤_}
 use native.Mathlib.Omega.{arith}
 use lib.ListN.{length, take}
@@ -13,8 +13,8 @@ use Rattle.paper.specs.declared.Refusal.the-variants as refusal
 use Rattle.paper.specs.declared.Making.{Making}
 use Rattle.paper.specs.declared.Making.the-variants as making
 use Rattle.paper.specs.Answers.{Ruling, accept, refuse, Made, Makes}
-use Rattle.paper.specs.Lists.{Opening, longest, all-beginnings, distinct}
-use Rattle.trees.specs.Bounds.{Bounded}
+use Rattle.paper.specs.Lists.{Opening, longest}
+use Rattle.trees.specs.Bounds.{Within}
 use Rattle.trees.specs.Chain.{Reordered}
 use Rattle.promises.specs.Demand as demand
 use Rattle.promises.specs.Demand.{Kept, Demanded, kept, Same-answers}
@@ -27,18 +27,16 @@ use Rattle.intake_lists.proofs.Lends.{call-calls}
 
 -- The call is refused only by 8, exactly when one string stands under two production numbers; otherwise each state
 -- of the shrunk table is reached, no two are alike, and intake predict gives what the lists define.
-pub intake-demand3 : (l : Opening) (ls : List Opening) → ((m : Opening) → List·Memᴰ m (l ∷ ls) → Bounded m) →
-    length (distinct (all-beginnings (l ∷ ls))) ≤ 1024 → (room : ℕ) → 16384 ≤ room →
+pub intake-demand3 : (l : Opening) (ls : List Opening) → Within (l ∷ ls) → (room : ℕ) → 16384 ≤ room →
     Demanded (l ∷ ls) (call-of (l ∷ ls) room)
-intake-demand3 l ls bounded few room h = rw (call-calls l ls room h) (demand3 l ls bounded few)
+intake-demand3 l ls w room h = rw (call-calls l ls room h) (demand3 l ls w)
 
 -- The order of the lists changes no answer.
 pub intake-any-order : (l : Opening) (ls : List Opening) (l′ : Opening) (ls′ : List Opening) →
-    Reordered (l ∷ ls) (l′ ∷ ls′) → ((m : Opening) → List·Memᴰ m (l ∷ ls) → Bounded m) →
-    length (distinct (all-beginnings (l ∷ ls))) ≤ 1024 → (room room′ : ℕ) → 16384 ≤ room → 16384 ≤ room′ →
+    Reordered (l ∷ ls) (l′ ∷ ls′) → Within (l ∷ ls) → (room room′ : ℕ) → 16384 ≤ room → 16384 ≤ room′ →
     Same-answers (longest (l ∷ ls)) (call-of (l ∷ ls) room) (call-of (l′ ∷ ls′) room′)
-intake-any-order l ls l′ ls′ o bounded few room room′ h h′ =
-    rw (call-calls l ls room h, call-calls l′ ls′ room′ h′) (any-order l ls l′ ls′ o bounded few)
+intake-any-order l ls l′ ls′ o w room room′ h h′ =
+    rw (call-calls l ls room h, call-calls l′ ls′ room′ h′) (any-order l ls l′ ls′ o w)
 
 -- ---- of any answer that the contract allows
 serves : (ls : List Opening) (m : Made) → Kept ls m → (p : ℤ) (k n s : ℕ) (old new : List ℤ) →
@@ -68,8 +66,7 @@ answers ls (demand.clashed {p} {q} h) r old new c =
     let (e, f) = makes-one (refuse 8 (p ∷ q ∷ [])) old r (making.Refused (refusal.Clash a b)) new old c told in
     rw e (clashed h f)
 
-pub intake-answers : (l : Opening) (ls : List Opening) → ((m : Opening) → List·Memᴰ m (l ∷ ls) → Bounded m) →
-    length (distinct (all-beginnings (l ∷ ls))) ≤ 1024 → (r : Making) (old new : List ℤ) → 16384 ≤ length old →
-    Makes (call-of (l ∷ ls) (length old)) r old new → Answered (l ∷ ls) old new r
-intake-answers l ls bounded few r old new h c =
-    answers (l ∷ ls) (intake-demand3 l ls bounded few (length old) h) r old new c
+pub intake-answers : (l : Opening) (ls : List Opening) → Within (l ∷ ls) → (r : Making) (old new : List ℤ) →
+    16384 ≤ length old → Makes (call-of (l ∷ ls) (length old)) r old new → Answered (l ∷ ls) old new r
+intake-answers l ls w r old new h c =
+    answers (l ∷ ls) (intake-demand3 l ls w (length old) h) r old new c

@@ -11,9 +11,8 @@ use borrow.Author.Tests.{le-ltb, eq-eqb, ne-eqb}
 use Rattle.laws.proofs.Cut.{sum-joined}
 use Rattle.paper.specs.Answers.{Ruling, accept, refuse, then, Made}
 use Rattle.paper.specs.Checks.{little-room}
-use Rattle.paper.specs.Build.{sum}
+use Rattle.paper.specs.Build.{joined, sum}
 use Rattle.paper.specs.Lists.{Opening}
-use Rattle.paper.specs.Cases.{joined}
 use Rattle.trees.specs.Chain.{build-list, unite-made, unite-rest, chain}
 use Rattle.promises.specs.Demand.{shrink-made, calls}
 use Rattle.intake_lists.specs.Call.{

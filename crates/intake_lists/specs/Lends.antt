@@ -6,7 +6,7 @@ use lib.ListN.{length}
 use lib.IntN.{ℤ, pos}
 use Rattle.paper.specs.Answers.{Ruling, Made}
 use Rattle.paper.specs.Lists.{Opening}
-use Rattle.paper.specs.Cases.{joined}
+use Rattle.paper.specs.Build.{joined}
 use Rattle.intake_lists.specs.Call.{table-of}
 
 -- The productions.

@@ -5,8 +5,7 @@ use Prim.Native.Nat.{ℕ}
 use native.Mathlib.Omega.{arith}
 use lib.ListN.{length, length-append}
 use lib.Seq.{take-at, drop-at}
-use Rattle.paper.specs.Build.{strings, sum}
-use Rattle.paper.specs.Cases.{joined}
+use Rattle.paper.specs.Build.{joined, strings, sum}
 
 pub strings-joined : (σs : List (List ℕ)) → strings (map (λ σ. length σ) σs) (joined σs) ≡ σs
 unfolding strings joined

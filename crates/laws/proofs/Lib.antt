@@ -8,3 +8,4 @@ pub mod Find
 pub mod RowNumbers
 pub mod Cut
 pub mod Writing
+pub mod Refusals

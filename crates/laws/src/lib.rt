@@ -1,1 +1,1 @@
-// Theorems only: facts about lists, tests, rows and what a call writes that no library of the kit has.
+// Theorems only: facts about lists, tests, rows and what a call writes that no library of the toolchain has.

@@ -1,4 +1,4 @@
--- Every worked case of document 01 gives what the document says, by computation.
+-- Every case of the table gives what document 01 says, by computation.
 use mathlib.Core.Path.{_≡_, refl}
 use mathlib.Core.List.{_++_, map}
 use Rattle.paper.specs.Words.{bytes}
@@ -30,6 +30,7 @@ use Rattle.paper.specs.Build.{
   add-string,
   add-strings,
   built,
+  joined,
   strings,
   sum,
   build-lengths,
@@ -124,12 +125,8 @@ use Rattle.paper.specs.Lists.{
   longest,
   or-none,
   defined,
-  beginnings,
-  string-beginnings,
-  all-beginnings,
-  distinct,
 }
-use Rattle.paper.specs.Cases.{joined, make, run, said, starred, unstarred}
+use Rattle.paper.specs.Cases.{make, run, said, starred, unstarred}
 
 pub worked : map run (starred ++ unstarred) ≡ map said (starred ++ unstarred)
 unfolding bytes
@@ -146,6 +143,6 @@ unfolding bytes
     past and-then read read-line read-rows read-lines text-in
     line lines-of report printed tabrep
     begins begins-one begins-some same-string among stands-under become longest-within longest-string longest
-    or-none defined beginnings string-beginnings all-beginnings distinct
+    or-none defined
     joined make run said starred unstarred
 worked = refl

@@ -78,7 +78,7 @@ pub record Chosen : Type 0 where
   pub production : ℕ
   pub entered : ℕ
 
--- The values of an answer of build, unite and shrink, whose rows stand in the output.
+-- The values of an answer of build, unite, shrink and intake's call, whose rows stand in the output.
 pub record Heading : Type 0 where
   pub prod0 : ℤ
   pub k : ℕ
@@ -116,7 +116,7 @@ abbrev pub wrote : Writing → Ruling ℕ
 wrote (writing.Wrote n) = accept n
 wrote (writing.Refused r) = refuse (number r) (detail r)
 
--- Build, unite and shrink: the answer and the output are what the ruling says.
+-- Build, unite, shrink and intake's call: the answer and the output are what the ruling says.
 pub record Makes (ruling : Ruling Made) (answer : Making) (old new : List ℤ) : Type 0 where
   pub says : made answer ≡ then ruling (λ m. accept (record {
     prod0 = signed (m .table .prod0);

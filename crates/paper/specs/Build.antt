@@ -2,7 +2,7 @@
 use Prim.Native.Nat.{ℕ, suc, _+_, max}
 use mathlib.Core.Bool.{Bool, not, _||_, cond}
 use mathlib.Core.Option.{Option, none, some}
-use mathlib.Core.List.{List, [], _∷_, map}
+use mathlib.Core.List.{List, [], _∷_, _++_, map}
 use lib.ListN.{length, take, drop}
 use lib.IntN.{ℤ}
 use lib.Dec.{eqb, ltb, leb}
@@ -62,6 +62,11 @@ add-strings q t (σ ∷ σs) = add-strings q (add-string q t σ) σs
 unfoldable pub built : ℕ → List (List ℕ) → Table
 built q [] = record { prod0 = some q; k = 0; rows = [] }
 built q (σ ∷ σs) = add-strings q (record { prod0 = none; k = 0; rows = [] }) (σ ∷ σs)
+
+-- All tokens of some strings, one after the other.
+unfoldable pub joined : List (List ℕ) → List ℕ
+joined [] = []
+joined (σ ∷ σs) = σ ++ joined σs
 
 -- The first string starts at the slice's head; the others are read from the rest of the token slice.
 unfoldable pub strings : List ℕ → List ℕ → List (List ℕ)

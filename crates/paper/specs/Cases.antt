@@ -2,7 +2,7 @@
 use Prim.Native.Nat.{ℕ}
 use Prim.Native.String.{String}
 use mathlib.Core.Option.{Option, none, some}
-use mathlib.Core.List.{List, [], _∷_, _++_, map}
+use mathlib.Core.List.{List, [], _∷_, map}
 use lib.ListN.{length}
 use lib.IntN.{pos}
 use Rattle.paper.specs.declared.Mode.{Mode}
@@ -10,7 +10,7 @@ use Rattle.paper.specs.declared.Mode.the-variants.{Archive, Intake}
 use Rattle.paper.specs.Words.{bytes}
 use Rattle.paper.specs.Rows.{Row, signed, numbers}
 use Rattle.paper.specs.Answers.{Ruling, accept, refuse, then, Made, Chosen}
-use Rattle.paper.specs.Build.{build}
+use Rattle.paper.specs.Build.{joined, build}
 use Rattle.paper.specs.Unite.{unite}
 use Rattle.paper.specs.Shrink.{shrink}
 use Rattle.paper.specs.Predict.{predict}
@@ -32,11 +32,6 @@ pub data Asked : Type 0 where
   list : ℕ → List (List ℕ) → Asked
   united : Mode → Asked → Asked → Asked
   shrunk : Mode → Asked → Asked
-
--- All tokens of some strings, as build takes them.
-unfoldable pub joined : List (List ℕ) → List ℕ
-joined [] = []
-joined (σ ∷ σs) = σ ++ joined σs
 
 -- The ruling of the last call that makes it; every output has 16,384 numbers.
 unfoldable pub make : Asked → Ruling Made

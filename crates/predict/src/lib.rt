@@ -61,7 +61,7 @@ fn answer(mode: Mode, prod0: i32, w: Walk) -> Prediction
     }
 }
 
-// The walk over the first k tokens of a table that passed 1 to 3, and its answer.
+// The walk over the first k tokens of a table that passed 2 and 3, and its answer.
 fn chosen(mode: Mode, prod0: i32, k: usize, rows: &[i32], tokens: &[u16]) -> Prediction
     requires { ⌜ Sound prod0 k (now rows) × (k ≤ length (now tokens)) ⌝ }
     ensures { λ r. ⌜ predicted r ≡ chosen mode (table prod0 k (now (rows .entry))) (now (tokens .entry)) ⌝ }
@@ -70,7 +70,7 @@ fn chosen(mode: Mode, prod0: i32, k: usize, rows: &[i32], tokens: &[u16]) -> Pre
     answer(mode, prod0, w)
 }
 
-// Predict for a table that passed 1 to 3, for callers who predict often: 9, 10, then the walk.
+// Predict for a table that passed 2 and 3, for predict and batch: 9, 10, then the walk.
 pub fn predict_checked(
     mode: Mode,
     prod0: i32,

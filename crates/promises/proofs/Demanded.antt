@@ -1,6 +1,6 @@
 -- Demand 3, for lists within bounds with at most 1,024 distinct beginnings. Assumes nothing.
 use mathlib.Core.Path.{_≡_, refl, sym, _∙_}
-use mathlib.Core.List.{List, _∷_, List·Memᴰ}
+use mathlib.Core.List.{List, _∷_}
 use Prim.Native.Nat.{ℕ, _≤_}
 use native.Mathlib.Omega.{arith}
 use lib.ListN.{length}
@@ -8,12 +8,11 @@ use Rattle.paper.specs.declared.Mode.the-variants.{Intake}
 use Rattle.paper.specs.Rows.{Table}
 use Rattle.paper.specs.Answers.{Ruling, then, Made}
 use Rattle.paper.specs.Shrink.{shrunk}
-use Rattle.paper.specs.Lists.{Opening, longest, all-beginnings, distinct}
+use Rattle.paper.specs.Lists.{Opening, longest}
 use Rattle.merging.specs.Reach.{reaches, reaches-from}
 use Rattle.merging.proofs.Promises.{shrunk-reaches, shrunk-intake-unlike, shrunk-prod0, shrunk-k, shrunk-order}
 use Rattle.merging.proofs.Promises.{shrunk-range, shrunk-rows-le, shrunk-reached, shrunk-below}
 use Rattle.trees.specs.Reach.{view, reach}
-use Rattle.trees.specs.Bounds.{Bounded}
 use Rattle.trees.specs.Says.{Says}
 use Rattle.trees.specs.Chain.{United-lists, Chained, united, Reordered}
 use Rattle.trees.specs.Chain as chains
@@ -24,7 +23,7 @@ use Rattle.trees.proofs.Tells.{stands-more}
 use Rattle.trees.proofs.Chained.{chain-good}
 use Rattle.trees.proofs.Reordering.{longest-same, beginnings-same, foretold-same}
 use Rattle.promises.specs.Demand.{shrink-made, calls, Kept, Demanded, kept, clashed}
-use Rattle.promises.specs.Demand.{Same-answers, both-kept, both-clashed}
+use Rattle.promises.specs.Demand.{Same-answers, both-kept, both-clashed, Demand3, Any-order}
 
 -- a table's view is what its strings reach
 pub view-reaches : (t : Table) (σ : List ℕ) → view t σ ≡ reaches t σ
@@ -52,10 +51,9 @@ shrunk-kept ls m u =
           (shrunk-order Intake t (h .ordered) (h .shaped)) few;
     }
 
-pub demand3 : (l : Opening) (ls : List Opening) → ((m : Opening) → List·Memᴰ m (l ∷ ls) → Bounded m) →
-    length (distinct (all-beginnings (l ∷ ls))) ≤ 1024 → Demanded (l ∷ ls) (calls l ls)
+pub demand3 : Demand3
 unfolding calls shrink-made
-demand3 l ls bd bound = go (chain-good l ls bd bound)
+demand3 l ls w = go (chain-good l ls (w .bounded) (w .few))
   where
     go : {g : Ruling Made} → Chained (l ∷ ls) g → Demanded (l ∷ ls) (then g shrink-made)
     go (united {m} u) = rw (shrink-accepts Intake (m .table) (u .sound)) (kept (shrunk-kept (l ∷ ls) m u))
@@ -75,9 +73,8 @@ same-answers ls ls′ o (clashed {p} {q} c) (kept b) = absurd (c .differ (b .one
     (stands-more ls ls′ (o .there) (c .string) p (c .first)) (stands-more ls ls′ (o .there) (c .string) q (c .second))))
 same-answers ls ls′ o (clashed c) (clashed c′) = both-clashed
 
-pub any-order : (l : Opening) (ls : List Opening) (l′ : Opening) (ls′ : List Opening) →
-    Reordered (l ∷ ls) (l′ ∷ ls′) → ((m : Opening) → List·Memᴰ m (l ∷ ls) → Bounded m) →
-    length (distinct (all-beginnings (l ∷ ls))) ≤ 1024 →
-    Same-answers (longest (l ∷ ls)) (calls l ls) (calls l′ ls′)
-any-order l ls l′ ls′ o bd bound = same-answers (l ∷ ls) (l′ ∷ ls′) o (demand3 l ls bd bound)
-    (demand3 l′ ls′ (λ m i. bd m (o .back m i)) (omega (arith, bound, beginnings-same (l ∷ ls) (l′ ∷ ls′) o)))
+pub any-order : Any-order
+any-order l ls l′ ls′ o w = same-answers (l ∷ ls) (l′ ∷ ls′) o (demand3 l ls w) (demand3 l′ ls′ (record {
+  bounded = λ m i. w .bounded m (o .back m i);
+  few = omega (arith, w .few, beginnings-same (l ∷ ls) (l′ ∷ ls′) o);
+}))

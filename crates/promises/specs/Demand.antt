@@ -11,8 +11,9 @@ use Rattle.paper.specs.Shrink.{shrink, production-of, rows-of}
 use Rattle.paper.specs.Predict.{predict}
 use Rattle.paper.specs.Lists.{Opening, longest}
 use Rattle.merging.specs.Reach.{Reached}
+use Rattle.trees.specs.Bounds.{Within}
 use Rattle.trees.specs.Says.{Stands, foretold}
-use Rattle.trees.specs.Chain.{chain, Conflict}
+use Rattle.trees.specs.Chain.{chain, Conflict, Reordered}
 
 -- A made table is shrunk, in intake mode.
 unfoldable pub shrink-made : Made → Ruling Made
@@ -53,3 +54,13 @@ pub data Same-answers (k : ℕ) : Ruling Made → Ruling Made → Type 0 where
       ≡ predict Intake (signed (m′ .table .prod0)) (m′ .table .k) (numbers (m′ .table .rows)) stream tokens) →
       Same-answers k (accept m) (accept m′)
   both-clashed : {p q p′ q′ : ℕ} → Same-answers k (refuse 8 (p ∷ q ∷ [])) (refuse 8 (p′ ∷ q′ ∷ []))
+
+-- Demand 3, of one or more lists.
+abbrev pub Demand3 : Type 0
+Demand3 = (l : Opening) (ls : List Opening) → Within (l ∷ ls) → Demanded (l ∷ ls) (calls l ls)
+
+-- Its second half: in any order.
+abbrev pub Any-order : Type 0
+Any-order = (l : Opening) (ls : List Opening) (l′ : Opening) (ls′ : List Opening) →
+    Reordered (l ∷ ls) (l′ ∷ ls′) → Within (l ∷ ls) →
+    Same-answers (longest (l ∷ ls)) (calls l ls) (calls l′ ls′)

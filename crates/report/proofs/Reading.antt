@@ -20,7 +20,7 @@ use Rattle.rows.proofs.Signed.{stored}
 use Rattle.text_trips.proofs.Back.{passed}
 use Rattle.text_trips.proofs.Trips.{of-rows}
 use Rattle.report.specs.Rulings.{Taken, of-table, of-text}
-use Rattle.report.proofs.Refused.{refused-is}
+use Rattle.laws.proofs.Refusals.{refused-is}
 
 -- a production that was read, as a callee is passed it
 sign-kept : (o : Option ℕ) (p : ℤ) → code o ≤ 65536 → p ≡ signed o → toZ w32 (ofZ w32 p) ≡ p

@@ -22,12 +22,11 @@ use Rattle.counts.specs.Arrays.{Fitting}
 use Rattle.merging.proofs.States.{states-length}
 use Rattle.merging.proofs.Promises.{shrunk-rows-le, shrunk-states-le}
 use Rattle.shrink.proofs.Parts.{slice-few}
-use Rattle.text_laws.proofs.Never.{refuse-accept}
+use Rattle.laws.proofs.Refusals.{refuse-accept, refused-is}
 use Rattle.text_trips.proofs.Back.{passes}
 use Rattle.report_lines.specs.declared.Sizes.{Sizes}
 use Rattle.report_lines.specs.Printed.{Small, three}
 use Rattle.report.specs.Rulings.{Taken, Sized, of-table}
-use Rattle.report.proofs.Refused.{refused-is}
 
 -- the heading of what shrink makes
 abbrev heading : answers.Made → Heading

@@ -1,4 +1,4 @@
--- What the search in rows that passed 1 to 3 answers.
+-- What the search in rows that passed 2 and 3 answers.
 use mathlib.Core.Path.{_≡_}
 use mathlib.Core.Option.{none, some}
 use mathlib.Core.List.{List}

@@ -1,4 +1,4 @@
-// The row of a state and a terminal, and the stretch of a state's rows, in rows that passed 1 to 3.
+// The row of a state and a terminal, and the stretch of a state's rows, in rows that passed 2 and 3.
 use paper::State;
 use paper::Terminal;
 use rows::numbers;

@@ -20,7 +20,7 @@ from-first i (r ∷ rs) s = cond (eqb (r .from) s) i (from-first (suc i) rs s)
 abbrev pub leaves : List ℤ → ℕ → ℕ → Bool
 leaves ns s i = ltb i (length ns / 4) && eqb (row-at ns i .from) s
 
--- Rows that passed 1 to 3, and the first row from each state.
+-- Rows that passed 2 and 3, and the first row from each state.
 pub record Begun (ns : List ℤ) (first : List ℕ) : Type 0 where
   pub passed : Passed ns
   pub few : length ns ≤ 16384

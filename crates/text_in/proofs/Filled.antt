@@ -16,7 +16,7 @@ use Rattle.text_lines.specs.Reading.{row-from}
 use Rattle.rows.specs.Places.{row}
 use Rattle.text_laws.specs.Written.{row-numbers}
 use Rattle.text_in.specs.Tally.{rows-read, taken, numbers-from, Ready}
-use Rattle.text_laws.proofs.Never.{refuse-accept}
+use Rattle.laws.proofs.Refusals.{refuse-accept}
 use Rattle.text_laws.proofs.Put.{put-put}
 use Rattle.text_in.proofs.Parted.{rows-end, rows-bad}
 use Rattle.text_in.proofs.Tallied.{row-back, rows-cons}

@@ -23,7 +23,7 @@ use Rattle.text_in.specs.declared.passes.Tally.{Tally}
 use Rattle.text_lines.specs.Reading.{head-from}
 use Rattle.text_in.specs.Tally.{rows-read, taken, numbers-from, tally, tally-from, start, Ready}
 use Rattle.text_laws.specs.Put.{put}
-use Rattle.text_laws.proofs.Never.{refuse-accept}
+use Rattle.laws.proofs.Refusals.{refuse-accept}
 use Rattle.text_laws.proofs.Put.{put-front}
 use Rattle.text_laws.proofs.Kept.{numbers-kept}
 use Rattle.text_in.proofs.Fours.{fours}

@@ -1,3 +1,2 @@
 pub mod Put
 pub mod Kept
-pub mod Never

@@ -15,7 +15,7 @@ use Rattle.paper.specs.Checks.{first, plain, range, order, little-room, row-sli
 use Rattle.paper.specs.Text.{lines, read-lines, text-in, text-out}
 use Rattle.rows.proofs.Rest.{length-rows}
 use Rattle.text_laws.proofs.Kept.{production-kept, numbers-kept}
-use Rattle.text_laws.proofs.Never.{refuse-accept}
+use Rattle.laws.proofs.Refusals.{refuse-accept}
 use Rattle.row_checks.proofs.Judged.{done, next-check}
 use Rattle.text_out.proofs.Out.{out-text, in-range}
 use Rattle.text_trips.proofs.Joined.{text-back}

@@ -1,4 +1,4 @@
--- Reading what was written gives the same table. Assumes nothing.
+-- Reading what was written gives the same table, number for number. Assumes nothing.
 use Prim.Native.Nat.{ℕ, zero, suc, _+_, _*_, _%_, _/_, _<_, _≤_}
 use mathlib.Core.Path.{_≡_, refl, ap, subst, _∙_}
 use mathlib.Core.Bool.{true, false, not, _||_}
@@ -12,7 +12,7 @@ use lib.ListN.{length}
 use lib.IntN.{ℤ, pos, negsuc}
 use Rattle.laws.proofs.RowNumbers.{accepting-signed}
 use Rattle.paper.specs.Words.{bytes}
-use Rattle.paper.specs.Rows.{Row, table, rows-in, natural, accepting, signed}
+use Rattle.paper.specs.Rows.{Row, table, rows-in, natural, accepting, signed, numbers}
 use Rattle.paper.specs.Answers.{accept}
 use Rattle.paper.specs.Checks.{every, row-fits, range, order, little-room, row-slice}
 use Rattle.paper.specs.Text.{
@@ -42,7 +42,7 @@ use Rattle.rows.proofs.Rest.{both, length-rows}
 use Rattle.rows.proofs.Fits.{Fit, fit}
 use Rattle.text_pieces.proofs.Numbers.{digit-of}
 use Rattle.text_trips.proofs.Decimal.{Digits, are-digits}
-use Rattle.text_laws.proofs.Kept.{row-kept}
+use Rattle.text_laws.proofs.Kept.{production-kept, row-kept, numbers-kept}
 use Rattle.text_out.proofs.Out.{Ranged, in-range, in-slice}
 use Rattle.text_in.proofs.Parted.{line-read}
 use Rattle.text_trips.proofs.Reread.{reread-head, reread-row}
@@ -150,17 +150,42 @@ whole-rows ns e =
     let z = eqb-true (length ns % 4) 0 (not-false (eqb (length ns % 4) 0) h) in
     omega (arith, div-add-mod' (length ns) 4)
 
-pub written-is-read : (p : ℤ) (k : ℕ) (ns : List ℤ) (wide : ℕ) (t : List ℕ) (room : ℕ) →
-    text-out p k ns wide ≡ accept t → 16384 ≤ room → text-in t room ≡ accept (table p k ns)
-unfolding text-out text-in little-room
-written-is-read p k ns wide t room e h =
+-- what an accepted text out says of its input
+record Written (p : ℤ) (k : ℕ) (ns : List ℤ) (t : List ℕ) : Type 0 where
+  slice : row-slice ns ≡ false
+  ranged : range (table p k ns) ≡ false
+  ordered : order (table p k ns) ≡ false
+  is : text p k ns ≡ t
+
+written : (p : ℤ) (k : ℕ) (ns : List ℤ) (wide : ℕ) (t : List ℕ) → text-out p k ns wide ≡ accept t → Written p k ns t
+unfolding text-out
+written p k ns wide t e =
     let a = passes (row-slice ns || ltb wide 262144) 1 _ t e in
     let b = passes (range (table p k ns)) 2 _ t (a .1) in
     let c = passes (order (table p k ns)) 3 _ t (b .1) in
-    let v : text p k ns ≡ t = cc in
-    let slice = neither (row-slice ns) (ltb wide 262144) (a .0) .0 in
-    let fits = in-range p k ns (b .0) in
-    let q = lines-reread p k (length ns / 4) ns fits (whole-rows ns slice) in
-    let few : length (rows-in ns) ≤ 4096 = omega (arith, length-rows ns, in-slice ns slice) in
-    let r : read-lines (lines t) ≡ accept (table p k ns) = rw (← v) q in
-    rw (le-ltb room 16384 h, r, le-ltb 4096 (length (rows-in ns)) few, b .0, c .0)
+    record {
+      slice = neither (row-slice ns) (ltb wide 262144) (a .0) .0;
+      ranged = b .0;
+      ordered = c .0;
+      is = let q = c .1 in cc;
+    }
+
+pub written-is-read : (p : ℤ) (k : ℕ) (ns : List ℤ) (wide : ℕ) (t : List ℕ) (room : ℕ) →
+    text-out p k ns wide ≡ accept t → 16384 ≤ room → text-in t room ≡ accept (table p k ns)
+unfolding text-in little-room
+written-is-read p k ns wide t room e h =
+    let w = written p k ns wide t e in
+    let q = lines-reread p k (length ns / 4) ns (in-range p k ns (w .ranged)) (whole-rows ns (w .slice)) in
+    let few : length (rows-in ns) ≤ 4096 = omega (arith, length-rows ns, in-slice ns (w .slice)) in
+    let r : read-lines (lines t) ≡ accept (table p k ns) = rw (← w .is) q in
+    rw (le-ltb room 16384 h, r, le-ltb 4096 (length (rows-in ns)) few, w .ranged, w .ordered)
+
+-- and its table holds the numbers that were written, each as it was
+pub written-as-given : (p : ℤ) (k : ℕ) (ns : List ℤ) (wide : ℕ) (t : List ℕ) → text-out p k ns wide ≡ accept t →
+    (signed (accepting p) ≡ p) × (numbers (rows-in ns) ≡ ns)
+written-as-given p k ns wide t e =
+    let w = written p k ns wide t e in
+    let fits = in-range p k ns (w .ranged) in (
+      production-kept p (fits .prod0),
+      numbers-kept (length ns / 4) ns (whole-rows ns (w .slice)) (fits .rows),
+    )

@@ -31,7 +31,8 @@ use Rattle.rows.proofs.Rest.{by-test}
 use Rattle.text_lines.specs.declared.reading.HeadLine.{HeadLine}
 use Rattle.text_lines.specs.declared.reading.HeadLine.the-variants as head-line
 use Rattle.text_lines.specs.Reading.{head-of}
-use Rattle.text_laws.proofs.Never.{none-some, refuse-accept}
+use Rattle.laws.proofs.Tests.{never}
+use Rattle.laws.proofs.Refusals.{refuse-accept}
 use Rattle.text_lines.proofs.Told.{head-told, head-is-read}
 use Rattle.text_in.proofs.Fours.{rows-four, line-four, size}
 use Rattle.text_in.proofs.Parted.{line-read, line-unread}
@@ -122,7 +123,7 @@ two l h e = go (head-of l 0) (head-is-read l 0 ∙ e)
     go (head-line.Head p k n) q =
         let w : signed (uncoded p) ∷ pos k ∷ [] ≡ h = cc in
         record { prod0 = signed (uncoded p); k = k; all = sym w }
-    go head-line.Bad q = none-some q
+    go head-line.Bad q = absurd (never q)
 
 lines-back : (ls : List Line) (tb : Table) → read-lines ls ≡ accept tb → Read-from (join ls) tb
 unfolding read-lines text

@@ -26,7 +26,7 @@ use Rattle.paper.specs.Text.{
   and-then,
 }
 use Rattle.rows.proofs.Rest.{by-test}
-use Rattle.text_laws.proofs.Never.{none-some}
+use Rattle.laws.proofs.Tests.{never}
 use Rattle.text_pieces.proofs.Formed.{read-after, read-signed}
 use Rattle.text_trips.proofs.Decimal.{formed-digits}
 
@@ -34,13 +34,13 @@ use Rattle.text_trips.proofs.Decimal.{formed-digits}
 pub past-word : (w bs r : List ℕ) → past w bs ≡ some r → w ++ r ≡ bs
 unfolding past
 past-word [] bs r e = let q : bs ≡ r = cc in sym q
-past-word (w ∷ ws) [] r e = none-some e
+past-word (w ∷ ws) [] r e = absurd (never e)
 past-word (w ∷ ws) (b ∷ bs) r e = by-test (eqb w b)
     (λ f.
     let q : w ≡ b = eqb-true w b f in
     let g : past ws bs ≡ some r = sym (ap (λ (t : Bool). cond t (past ws bs) none) f) ∙ e in
     rw q (ap (λ (x : List ℕ). b ∷ x) (past-word ws bs r g)))
-    (λ f. none-some (sym (ap (λ (t : Bool). cond t (past ws bs) none) f) ∙ e))
+    (λ f. absurd (never (sym (ap (λ (t : Bool). cond t (past ws bs) none) f) ∙ e)))
 
 -- a number put before others
 record Split (n : ℤ) (o : Option (List ℤ)) (ns : List ℤ) : Type 0 where
@@ -50,7 +50,7 @@ record Split (n : ℤ) (o : Option (List ℤ)) (ns : List ℤ) : Type 0 where
 
 split : (n : ℤ) (o : Option (List ℤ)) (ns : List ℤ) → and-then n o ≡ some ns → Split n o ns
 unfolding and-then
-split n none ns e = none-some e
+split n none ns e = absurd (never e)
 split n (some ms) ns e = let q : n ∷ ms ≡ ns = cc in record { rest = ms; read = refl; all = sym q }
 
 -- the pieces of a form, one by one: what follows is rewritten already
@@ -61,7 +61,7 @@ module _ (ps : List Piece) (bs : List ℕ) (ns : List ℤ)
   back-word w e = go (past (bytes w) bs) refl
     where
       go : (o : Option (List ℕ)) → past (bytes w) bs ≡ o → bytes w ++ write ps ns ≡ bs
-      go none q = none-some (sym (read-after w ps bs none q) ∙ e)
+      go none q = absurd (never (sym (read-after w ps bs none q) ∙ e))
       go (some r) q =
           ap (λ (x : List ℕ). bytes w ++ x) (back r ns (sym (read-after w ps bs (some r) q) ∙ e))
           ∙ past-word (bytes w) bs r q
@@ -80,7 +80,7 @@ module _ (ps : List Piece) (bs : List ℕ) (ns : List ℤ)
         ap (λ (x : List ℕ). digits 5 v ++ x) (back (drop (digit-count bs) bs) (s .rest) (s .read))
             ∙ formed-digits bs f,
       ))
-      (λ f. none-some (rw f at e))
+      (λ f. absurd (never (rw f at e)))
 
   back-count : read (count ∷ ps) bs ≡ some ns → write (count ∷ ps) ns ≡ bs
   unfolding write decimal
@@ -100,7 +100,7 @@ module _ (ps : List Piece) (bs : List ℕ) (ns : List ℤ)
 pub read-write : (form : List Piece) (bs : List ℕ) (ns : List ℤ) → read form bs ≡ some ns → write form ns ≡ bs
 unfolding read write
 read-write [] [] ns e = refl
-read-write [] (b ∷ bs) ns e = none-some e
+read-write [] (b ∷ bs) ns e = absurd (never e)
 read-write (word w ∷ ps) bs ns e = back-word ps bs ns (read-write ps) w e
 read-write (count ∷ ps) bs ns e = back-count ps bs ns (read-write ps) e
 read-write (production ∷ ps) bs ns e = back-production ps bs ns (read-write ps) e

@@ -19,7 +19,7 @@ use Rattle.trees.specs.Reach.{Seat, sit, said, view}
 use Rattle.trees.specs.Views.{seen}
 use Rattle.trees.specs.Trees.{Treed}
 use Rattle.trees.specs.Unions.{Union, Unites, joined, full, at-odds}
-use Rattle.trees.specs.Accepting.{accepts, accepting-rows, accepting-states, Claimed, Claims}
+use Rattle.trees.specs.Accepting.{accepts, accepting-rows, accepting-states, Claimed, Either, Claims}
 use Rattle.trees.specs.Accepting.{Apart, apart-nil, apart-cons}
 use Rattle.laws.proofs.RowsRise.{RowsRise, rows-cons, not-before-itself}
 use Rattle.laws.proofs.Find.{find-in}
@@ -235,9 +235,6 @@ module _ (t : Table) (tr : Tree (t .rows)) where
       )
 
 -- ---- of an intake union
-abbrev Either : Table → Table → List ℕ → Type 0
-Either A B σ = Claimed (view A) σ ⊎ Claimed (view B) σ
-
 module _ (A B T : Table) (u : Union Intake A B T) where
   into-union : (σ : List ℕ) → Either A B σ → Claimed (view T) σ
   unfolding seen

@@ -1,10 +1,11 @@
 -- The accepting states of a tree: state 0 if prod0 is no none, and one for each row with a production.
 use Prim.Native.Nat.{ℕ, _+_}
 use mathlib.Core.Path.{_≡_}
+use mathlib.Core.Logic.{_⊎_}
 use mathlib.Core.Option.{Option, none, some}
 use mathlib.Core.List.{List, [], _∷_, List·Memᴰ}
 use Rattle.paper.specs.Rows.{Row, Table}
-use Rattle.trees.specs.Reach.{Word}
+use Rattle.trees.specs.Reach.{Word, view}
 
 -- One state, if it has a production.
 unfoldable pub accepts : Option ℕ → ℕ
@@ -23,6 +24,10 @@ accepting-states t = accepts (t .prod0) + accepting-rows (t .rows)
 -- A string is claimed by a view: it has a production.
 abbrev pub Claimed : (List ℕ → Word) → List ℕ → Type 0
 Claimed D σ = (q : ℕ) × (D σ ≡ some (some q))
+
+-- A string is claimed by one of two tables.
+abbrev pub Either : Table → Table → List ℕ → Type 0
+Either A B σ = Claimed (view A) σ ⊎ Claimed (view B) σ
 
 -- No element stands twice.
 pub data Apart {A : Type 0} : List A → Type 0 where

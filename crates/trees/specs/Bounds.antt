@@ -2,7 +2,7 @@
 use mathlib.Core.List.{List, List·Memᴰ}
 use Prim.Native.Nat.{ℕ, _≤_, _<_}
 use lib.ListN.{length}
-use Rattle.paper.specs.Lists.{Opening}
+use Rattle.paper.specs.Lists.{Opening, all-beginnings, distinct}
 
 -- Strings of at most 16 tokens, each at most 65,535.
 pub record Short (σs : List (List ℕ)) : Type 0 where
@@ -15,3 +15,8 @@ pub record Bounded (l : Opening) : Type 0 where
   pub filled : 0 < length (l .strings)
   pub count : length (l .strings) ≤ 1024
   pub short : Short (l .strings)
+
+-- Demand 3's premise: every list is such a one, and they have at most 1,024 distinct beginnings in all.
+pub record Within (ls : List Opening) : Type 0 where
+  pub bounded : (l : Opening) → List·Memᴰ l ls → Bounded l
+  pub few : length (distinct (all-beginnings ls)) ≤ 1024

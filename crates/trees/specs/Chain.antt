@@ -8,11 +8,10 @@ use lib.IntN.{pos}
 use Rattle.paper.specs.declared.Mode.the-variants.{Intake}
 use Rattle.paper.specs.Rows.{signed, numbers}
 use Rattle.paper.specs.Answers.{Ruling, accept, refuse, then, Made}
-use Rattle.paper.specs.Build.{build}
+use Rattle.paper.specs.Build.{joined, build}
 use Rattle.paper.specs.Unite.{unite}
 use Rattle.paper.specs.Predict.{chosen}
 use Rattle.paper.specs.Lists.{Opening, longest, all-beginnings, distinct}
-use Rattle.paper.specs.Cases.{joined}
 use Rattle.trees.specs.Trees.{Sound}
 use Rattle.trees.specs.Reach.{view}
 use Rattle.trees.specs.Says.{Says, Stands}

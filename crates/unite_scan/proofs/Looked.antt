@@ -10,6 +10,7 @@ use borrow.Author.Tests.{eq-eqb, ne-eqb}
 use lib.Dec.{eqb}
 use lib.ListN.{length}
 use Rattle.laws.proofs.Tests.{never}
+use Rattle.laws.proofs.Refusals.{refused-is}
 use Rattle.paper.specs.declared.Mode.{Mode}
 use Rattle.paper.specs.Rows.{Row, find}
 use Rattle.paper.specs.Answers.{Ruling, accept, refuse, then}
@@ -83,14 +84,6 @@ module _ (mode : Mode) (a : List ℕ → Word) (pB : Option ℕ) (D rs : List Ro
   own-some z e = sym own ∙ ap said
       (onward-some (find rs) (lead (so-far none 0 rs ms .table) w) (r .terminal) x e₁ z (rw e₂ e))
 
-refused-of : {A B : Type 0} (g : Ruling A) (f : A → B) (n : ℕ) (d : List ℕ) → then g (λ c. accept (f c)) ≡ refuse n d
-    → g ≡ refuse n d
-refused-of (accept c) f n d e = absurd (let z : _≡_ {A = ℕ} 0 1 = cc in omega arith)
-refused-of (refuse m h) f n d e =
-    let a : m ≡ n = cc in
-    let b : h ≡ d = cc in
-    λ j. refuse (a j) (b j)
-
 -- two rows with one production, or none
 pub data Alike : Option Row → Option Row → Type 0 where
   neither : Alike none none
@@ -111,7 +104,7 @@ module _ (mode : Mode) (rs : List Row) (s t : ℕ) (q : Option ℕ) where
   unfolding looked taking
   alike-refused none none neither n d e = absurd (let z : _≡_ {A = ℕ} 0 1 = cc in omega arith)
   alike-refused (some x) (some z) (both k) n d e =
-      rw (← k, refused-of (taken mode (x .production) q) (λ _. x .to) n d e)
+      rw (← k, refused-is (λ _. x .to) (taken mode (x .production) q) n d (sym e))
 
   pub alike-taken : (g o : Option Row) → Alike g o → (v : ℕ) → looked mode q g ≡ accept v
       → (w : Standing) × (taking mode rs s t q o ≡ accept w)

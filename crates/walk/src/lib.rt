@@ -1,4 +1,4 @@
-// Document 01, module 5: the walk of predict, in rows that passed 1 to 3.
+// Document 01, module 5: the walk of predict, in rows that passed 2 and 3.
 use paper::Production;
 use paper::State;
 use paper::Terminal;
@@ -38,7 +38,7 @@ impl Walk {
         }
     }
 
-    // One token, and the walk after it, in rows that passed 1 to 3.
+    // One token, and the walk after it, in rows that passed 2 and 3.
     pub fn step(self, token: Terminal, rows: &[i32]) -> Walk
         requires { ⌜ Passed (now rows) × (self .entered < 4294967296) ⌝ }
         ensures { λ r. ⌜ seen r ≡ step (rows-in (now (rows .entry))) (token .0) (seen self) ⌝ }
@@ -82,7 +82,7 @@ impl Walk {
     }
 }
 
-// The walk over all tokens, in rows that passed 1 to 3.
+// The walk over all tokens, in rows that passed 2 and 3.
 pub fn walked(rows: &[i32], tokens: &[u16]) -> Walk
     requires { ⌜ Passed (now rows) × (length (now tokens) < 4294967296) ⌝ }
     ensures { λ r. ⌜ seen r ≡ walk (rows-in (now (rows .entry))) (now (tokens .entry)) start ⌝ }
