@@ -42,8 +42,8 @@ enum lookahead_refusal {
     LOOKAHEAD_FULL = 14     /* the result would have over 1,024 states */
 };
 
-/* Build: the tree of `lengths_len` strings, their tokens one after the other, under one production.
- * Answer: prod0 plus one, k, the row count, the state count. Refuses by 1, 2, 14. */
+/* Build: the tree of `lengths_len` strings, their tokens one after the other, under one production. A list without
+ * strings makes state 0 accept. Answer: prod0 plus one, k, the row count, the state count. Refuses by 1, 2, 14. */
 size_t lookahead_build(int32_t production, const uint16_t *tokens, size_t tokens_len, const size_t *lengths,
                        size_t lengths_len, int32_t *out, size_t out_len, uint64_t answer[4]);
 
@@ -58,9 +58,8 @@ size_t lookahead_shrink(uint32_t mode, int32_t prod0, size_t k, const int32_t *r
                         size_t out_len, uint64_t answer[4]);
 
 /* Intake: list i has counts[i] strings under productions[i], all lengths and all tokens one after the other; the lists
- * built, united in turn and shrunk in intake mode. A list without strings makes state 0 accept, in both modes.
- * Answer as build's. Refuses by 1 (no list, other counts than lists, sums that do not fit, a short `out`), then as its
- * first step that refuses: 1, 2, 8, 14. */
+ * built, united in turn and shrunk in intake mode. Answer as build's. Refuses by 1 (no list, other counts than lists,
+ * sums that do not fit, a short `out`), then as its first step that refuses: 1, 2, 8, 14. */
 size_t lookahead_intake(const int32_t *productions, size_t productions_len, const size_t *counts, size_t counts_len,
                         const size_t *lengths, size_t lengths_len, const uint16_t *tokens, size_t tokens_len,
                         int32_t *out, size_t out_len, uint64_t answer[4]);
@@ -69,14 +68,14 @@ size_t lookahead_intake(const int32_t *productions, size_t productions_len, cons
  * Refuses by 1, 2, 3. */
 size_t lookahead_check(int32_t prod0, size_t k, const int32_t *rows, size_t rows_len);
 
-/* Predict: the production that the first k tokens mean, in a stream whose own k is `stream`.
+/* Predict: the production that the first k tokens mean, in a stream whose own k is `stream_k`.
  * Answer: the production, the count of rows entered. Refuses by 1, 2, 3, 9, 10, then 11 or 12. */
-size_t lookahead_predict(uint32_t mode, int32_t prod0, size_t k, const int32_t *rows, size_t rows_len, size_t stream,
+size_t lookahead_predict(uint32_t mode, int32_t prod0, size_t k, const int32_t *rows, size_t rows_len, size_t stream_k,
                          const uint16_t *tokens, size_t tokens_len, uint64_t answer[4]);
 
 /* Batch: predict for `count` windows of k tokens, one after the other; into `out` each production, or minus the number.
  * Answer: `count`. Refuses by 1 (also over 4,096 windows, other tokens than count times k, a short `out`), 2, 3, 9. */
-size_t lookahead_batch(uint32_t mode, int32_t prod0, size_t k, const int32_t *rows, size_t rows_len, size_t stream,
+size_t lookahead_batch(uint32_t mode, int32_t prod0, size_t k, const int32_t *rows, size_t rows_len, size_t stream_k,
                        size_t count, const uint16_t *tokens, size_t tokens_len, int32_t *out, size_t out_len,
                        uint64_t answer[4]);
 
@@ -85,8 +84,9 @@ size_t lookahead_batch(uint32_t mode, int32_t prod0, size_t k, const int32_t *ro
 size_t lookahead_explain(int32_t prod0, size_t k, const int32_t *rows, size_t rows_len, const uint16_t *tokens,
                          size_t tokens_len, uint64_t answer[4]);
 
-/* Explain, the second call: the rows that leave the state where the next token has none, as a stretch of `rows`.
- * Answer: where it begins, how many numbers it has; never refuses: where explain does, the empty stretch at the end. */
+/* Explain, the second call: the rows that leave the state where the next token has none, as a stretch of `rows`; the
+ * empty stretch at their end if every token matched, that state has no rows, or the first call refuses.
+ * Answer: where it begins, how many numbers it has. Never refuses. */
 void lookahead_stretch(int32_t prod0, size_t k, const int32_t *rows, size_t rows_len, const uint16_t *tokens,
                        size_t tokens_len, uint64_t answer[4]);
 

@@ -6,7 +6,11 @@ fn main() {
     let folder = top.join("target/staticlib");
     let library = folder.join("libexports.a");
     println!("cargo:rerun-if-changed={}", library.display());
-    assert!(library.exists(), "run `rt staticlib exports` first");
+    assert!(
+        library.exists(),
+        "{} is missing: run `rt staticlib exports` at the top of the repository",
+        library.display()
+    );
     println!("cargo:rustc-link-search=native={}", folder.display());
     println!("cargo:rustc-link-lib=static=exports");
 }

@@ -6,8 +6,8 @@ pub type Work<'a> = &'a mut dyn FnMut();
 
 const BATCHES: usize = 31;
 
-/// A line of a table: what, then the Rust's time and ours, ratios first, over 1 where ours is faster. The first piece of
-/// work is the Rust's; a time is the median of its batches in nanoseconds for each of `units` units.
+/// A line of a table: what, then the Rust's time and ours, ratios first, over 1 where ours is faster. The first piece
+/// of work is the Rust's; a time is the median of its batches in nanoseconds for each of `units` units.
 pub fn race<const N: usize>(what: &str, units: usize, places: usize, mut works: [Work; N]) {
     let turns: Vec<usize> = works.iter_mut().map(turns).collect();
     let mut times = vec![Vec::new(); N];
@@ -19,7 +19,7 @@ pub fn race<const N: usize>(what: &str, units: usize, places: usize, mut works: 
     let medians: Vec<f64> = times.into_iter().map(median).collect();
     let ratios: Vec<String> = medians[1..]
         .iter()
-        .map(|ours| format!("{:.1}", medians[0] / ours))
+        .map(|ours| ratio(medians[0] / ours))
         .collect();
     let times: Vec<String> = medians.iter().map(|t| format!("{t:.places$}")).collect();
     println!(
@@ -27,6 +27,12 @@ pub fn race<const N: usize>(what: &str, units: usize, places: usize, mut works: 
         ratios.join(" | "),
         times.join(" | ")
     );
+}
+
+/// Two digits where one would be 0.
+fn ratio(ratio: f64) -> String {
+    let places = if ratio < 0.1 { 2 } else { 1 };
+    format!("{ratio:.places$}")
 }
 
 /// How many turns make a batch of two milliseconds or more.

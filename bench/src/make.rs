@@ -1,32 +1,15 @@
 //! Build, unite and shrink, beside the Rust.
 use crate::{clock, ours};
+use lookahead::Mode;
+use lookahead::lent::{self, ROOM};
+use oracle::Table;
+use oracle::agree::strings;
 use oracle::make::{self, Dice, Strings};
 use oracle::rust::{flat, ruled};
-use oracle::{Lent, Table};
 use parol::KTuples;
 use parol::analysis::LookaheadDFA;
 use parol::door::Compiled;
 use std::hint::black_box;
-
-fn lent(t: &Table) -> Lent<'_> {
-    Lent {
-        prod0: t.prod0,
-        k: t.k,
-        rows: &t.rows,
-    }
-}
-
-fn strings(list: &Strings) -> Vec<&[u16]> {
-    let mut rest = &list.tokens[..];
-    list.lengths
-        .iter()
-        .map(|&n| {
-            let (one, left) = rest.split_at(n);
-            rest = left;
-            one
-        })
-        .collect()
-}
 
 /// Random strings until the tree has about so many states.
 fn random_list(dice: &mut Dice, states: usize) -> Strings {
@@ -36,7 +19,7 @@ fn random_list(dice: &mut Dice, states: usize) -> Strings {
         let n = dice.within(1, 8).min(states - count);
         let string: Vec<u16> = (0..n).map(|_| 5 + dice.below(9) as u16).collect();
         list.push(&string);
-        count = oracle::rust::build(1, &strings(&list)).states;
+        count = oracle::rust::build(1, &strings(&list.lengths, &list.tokens)).states;
     }
     list
 }
@@ -82,7 +65,7 @@ pub fn build() {
     println!("| ratio | list | the Rust | ours |");
     println!("|---|---|---|---|");
     let mut dice = Dice::new(3);
-    let mut out = vec![0; 16384];
+    let mut out = vec![0; ROOM];
     for states in [10, 100, 500, 1000] {
         let shapes = [
             ("random strings", random_list(&mut dice, states)),
@@ -92,12 +75,12 @@ pub fn build() {
             ("single tokens that close in", single_list(states, close_in)),
         ];
         for (name, list) in shapes {
-            let tuples = KTuples::of(&strings(&list));
+            let tuples = KTuples::of(&strings(&list.lengths, &list.tokens));
             let mut rust = || {
                 black_box(LookaheadDFA::from_k_tuples(&tuples, 1));
             };
             let mut mine = || {
-                black_box(ours::build(1, &list.tokens, &list.lengths, &mut out));
+                let _ = black_box(lent::build(1, &list.tokens, &list.lengths, &mut out));
             };
             let what = format!("{name}, {states} states");
             clock::race(&what, 1, 0, [&mut rust, &mut mine]);
@@ -107,7 +90,7 @@ pub fn build() {
 
 /// The tree that the Rust builds of a list.
 fn built(list: &Strings, production: usize) -> Table {
-    let tuples = KTuples::of(&strings(list));
+    let tuples = KTuples::of(&strings(&list.lengths, &list.tokens));
     flat(&LookaheadDFA::from_k_tuples(&tuples, production))
 }
 
@@ -139,15 +122,15 @@ pub fn unite() {
     println!("| ratio | trees | the Rust | ours |");
     println!("|---|---|---|---|");
     let mut dice = Dice::new(4);
-    let mut out = vec![0; 16384];
+    let mut out = vec![0; ROOM];
     for states in [10, 100, 500, 1000] {
         for (name, x, y) in pairs(&mut dice, states) {
-            let (first, second) = (ruled(lent(&x)), ruled(lent(&y)));
+            let (first, second) = (ruled(x.lent()), ruled(y.lent()));
             let mut rust = || {
                 let _ = black_box(first.union(&second));
             };
             let mut mine = || {
-                black_box(ours::unite(0, lent(&x), lent(&y), &mut out));
+                let _ = black_box(lent::unite(Mode::Archive, ours(&x), ours(&y), &mut out));
             };
             let what = format!("{name}, {states} states together");
             clock::race(&what, 1, 0, [&mut rust, &mut mine]);
@@ -209,19 +192,19 @@ pub fn shrink() {
     println!("| ratio, archive | ratio, intake | tree | the Rust | archive | intake |");
     println!("|---|---|---|---|---|---|");
     let mut dice = Dice::new(5);
-    let mut out = vec![0; 16384];
-    let mut other = vec![0; 16384];
+    let mut out = vec![0; ROOM];
+    let mut other = vec![0; ROOM];
     for states in [10, 100, 500, 1000] {
         for (name, t) in shapes(&mut dice, states) {
-            let dfa = ruled(lent(&t));
+            let dfa = ruled(t.lent());
             let mut rust = || {
                 black_box(Compiled::from_lookahead_dfa(&dfa));
             };
             let mut archive = || {
-                black_box(ours::shrink(0, lent(&t), &mut out));
+                let _ = black_box(lent::shrink(Mode::Archive, ours(&t), &mut out));
             };
             let mut intake = || {
-                black_box(ours::shrink(1, lent(&t), &mut other));
+                let _ = black_box(lent::shrink(Mode::Intake, ours(&t), &mut other));
             };
             let what = format!("{name}, {states} states");
             clock::race(&what, 1, 0, [&mut rust, &mut archive, &mut intake]);

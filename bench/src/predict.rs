@@ -1,8 +1,10 @@
 //! Predict: a batch of windows in one call, and a call for each window, beside `eval`.
 use crate::{clock, ours};
+use lookahead::Mode;
+use lookahead::lent::{self, WINDOWS};
+use oracle::Table;
 use oracle::make::{self, Dice};
 use oracle::rust::Walker;
-use oracle::{Lent, Table};
 use parol_runtime::TokenStream;
 use std::hint::black_box;
 
@@ -38,11 +40,10 @@ fn window(dice: &mut Dice, t: &Table) -> Vec<u16> {
     tokens
 }
 
-/// How many tables of one size, and windows of each: one table alone could favour either side; a full batch of windows.
+/// How many tables of one size: one alone could favour either side.
 const TABLES: usize = 8;
-const WINDOWS: usize = 4_096;
 
-/// A table with its windows, each alone and all in a row.
+/// A table with a full batch of windows, each alone and all in a row.
 struct Set {
     table: Table,
     windows: Vec<Vec<u16>>,
@@ -54,30 +55,11 @@ impl Set {
         let table = table(dice, rows, k);
         let windows: Vec<_> = (0..WINDOWS).map(|_| window(dice, &table)).collect();
         let all = windows.iter().flatten().copied().collect();
-        let set = Set {
+        assert_eq!(Ok(()), lent::check(ours(&table)));
+        Set {
             table,
             windows,
             all,
-        };
-        let (number, _) = ours::predict(0, set.lent(), k, &set.windows[0]);
-        assert!(!matches!(number, 1..=3));
-        set
-    }
-
-    fn lent(&self) -> Lent<'_> {
-        Lent {
-            prod0: self.table.prod0,
-            k: self.table.k,
-            rows: &self.table.rows,
-        }
-    }
-}
-
-/// A call for each window.
-fn each(sets: &[Set], call: impl Fn(Lent, usize, &[u16]) -> ours::Answer) {
-    for s in sets {
-        for w in &s.windows {
-            black_box(call(s.lent(), s.table.k, w));
         }
     }
 }
@@ -89,30 +71,38 @@ fn of_size(dice: &mut Dice, rows: usize, k: usize) {
         .iter()
         .map(|s| {
             let streams = s.windows.iter().map(|w| TokenStream::lent(w, k));
-            (Walker::new(s.lent()), streams.collect::<Vec<_>>())
+            (Walker::new(s.table.lent()), streams.collect::<Vec<_>>())
         })
         .collect();
     let mut evals = || {
         for (walker, streams) in &mut asked {
             for stream in streams {
-                let _ = black_box(walker.0.eval(stream, 0));
+                let _ = black_box(walker.eval(stream));
             }
         }
     };
     let mut answers = [0; WINDOWS];
     let mut batches = || {
         for s in &sets {
-            black_box(ours::batch(s.lent(), &s.all, &mut answers));
+            let t = ours(&s.table);
+            let said = lent::batch(Mode::Archive, t, k, WINDOWS, &s.all, &mut answers);
+            let _ = black_box(said);
         }
     };
-    let mut calls = || each(&sets, |t, k, w| ours::predict(0, t, k, w));
+    let mut calls = || {
+        for s in &sets {
+            for w in &s.windows {
+                let _ = black_box(lent::predict(Mode::Archive, ours(&s.table), k, w));
+            }
+        }
+    };
     let what = format!("{rows} rows, k {k}");
     let works: [clock::Work; 3] = [&mut evals, &mut batches, &mut calls];
     clock::race(&what, TABLES * WINDOWS, 0, works);
 }
 
 pub fn run() {
-    println!("\n## predict, nanoseconds a window\n");
+    println!("\n## predict, archive, nanoseconds a window\n");
     println!(
         "| ratio, batch | ratio, single call | rows, k | the Rust's eval | batch | single call |"
     );
@@ -132,23 +122,18 @@ pub fn explain() {
     let mut dice = Dice::new(8);
     for (rows, k) in [(5, 2), (10, 2), (30, 3), (100, 4), (500, 8), (1000, 16)] {
         let t = table(&mut dice, rows, k);
-        let lent = Lent {
-            prod0: t.prod0,
-            k: t.k,
-            rows: &t.rows,
-        };
         let windows: Vec<Vec<u16>> = (0..64).map(|_| window(&mut dice, &t)).collect();
-        let walker = Walker::new(lent);
+        let walker = Walker::new(t.lent());
         let streams: Vec<_> = windows.iter().map(|w| TokenStream::lent(w, k)).collect();
         let names = parol_runtime::lexer::terminal_names();
         let mut rust = || {
             for s in &streams {
-                let _ = black_box(walker.0.build_error(names, s));
+                let _ = black_box(walker.build_error(names, s));
             }
         };
         let mut mine = || {
             for w in &windows {
-                black_box(ours::explain(lent, w));
+                let _ = black_box(lent::explain(ours(&t), w));
             }
         };
         let what = format!("{rows} rows, k {k}");

@@ -1,6 +1,6 @@
 //! Text in and out, beside a plain reader and writer of the same form.
-use crate::{clock, ours};
-use oracle::Lent;
+use crate::clock;
+use lookahead::lent::{self, Lent, ROOM, TEXT_ROOM};
 use std::fmt::Write;
 use std::hint::black_box;
 
@@ -38,22 +38,22 @@ pub fn run() {
             .flat_map(|i| [i / 4, 60000 + i % 4, (i * 7) % 1024, i % 65536 - 1])
             .collect();
         let text = plain_out(-1, 2, &rows);
-        let lent = Lent {
+        let t = Lent {
             prod0: -1,
             k: 2,
             rows: &rows,
         };
-        let mut bytes = vec![0; 262_144];
-        let mut numbers = vec![0; 16384];
-        assert_eq!(ours::text_out(lent, &mut bytes).0, 0);
+        let mut bytes = vec![0; TEXT_ROOM];
+        let mut numbers = vec![0; ROOM];
+        assert_eq!(Ok(text.len()), lent::text_out(t, &mut bytes));
         assert_eq!(&bytes[..text.len()], text.as_bytes());
-        assert_eq!(ours::text_in(text.as_bytes(), &mut numbers).0, 0);
-        assert_eq!(&numbers[..rows.len()], &rows[..]);
+        let read = lent::text_in(text.as_bytes(), &mut numbers);
+        assert_eq!(Ok(t), read.map(|r| r.lent(&numbers)));
         let mut rust = || {
             black_box(plain_out(-1, 2, &rows));
         };
         let mut mine = || {
-            black_box(ours::text_out(lent, &mut bytes));
+            let _ = black_box(lent::text_out(t, &mut bytes));
         };
         let what = format!("text out, {count} rows");
         clock::race(&what, text.len(), 2, [&mut rust, &mut mine]);
@@ -61,7 +61,7 @@ pub fn run() {
             black_box(plain_in(&text));
         };
         let mut mine = || {
-            black_box(ours::text_in(text.as_bytes(), &mut numbers));
+            let _ = black_box(lent::text_in(text.as_bytes(), &mut numbers));
         };
         let what = format!("text in, {count} rows");
         clock::race(&what, text.len(), 2, [&mut rust, &mut mine]);

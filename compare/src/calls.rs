@@ -2,7 +2,7 @@
 
 use crate::desk::{Change, Desk, Held, with_output};
 use crate::expected::{Expected, heard, made};
-use crate::fault::Fault;
+use crate::spoil::Spoil;
 use lookahead::raw;
 use oracle::agree::{self, Lending};
 use oracle::reading::{self, Answer, Lists, Mode, Refusal};
@@ -25,8 +25,8 @@ impl Desk {
         input: &impl Debug,
         call: impl FnOnce(*mut i32, usize, *mut u64) -> usize,
     ) {
-        let fault = self.fault.map(|f| (f, (|n| n ^ 1) as Change<i32>));
-        with_output(&mut self.rows, room, fault, expected, input, call);
+        let spoil = self.spoil.map(|s| (s, (|n| n ^ 1) as Change<i32>));
+        with_output(&mut self.rows, room, spoil, expected, input, call);
         self.count(expected.number);
     }
 
@@ -36,7 +36,7 @@ impl Desk {
         change: fn(T) -> T,
         input: &impl Debug,
     ) {
-        if self.fault == Some(Fault::Input) {
+        if self.spoil == Some(Spoil::Input) {
             held.spoil(change);
         }
         held.unchanged(input);
@@ -130,9 +130,9 @@ impl Desk {
         let expected = Expected::of(read.clone(), |text| ([text.len() as u64, 0, 0, 0], text));
         let mut r = Held::new(t.rows);
         let (rs, rl) = r.lent();
-        let fault = self.fault.map(|f| (f, (|n| n ^ 1) as Change<u8>));
+        let spoil = self.spoil.map(|s| (s, (|n| n ^ 1) as Change<u8>));
         // SAFETY: `r` lives on; `out` and `answer` are lent for this call alone.
-        with_output(&mut self.bytes, room, fault, &expected, &input, |out, len, answer| unsafe {
+        with_output(&mut self.bytes, room, spoil, &expected, &input, |out, len, answer| unsafe {
             raw::lookahead_text_out(t.prod0, t.k, rs, rl, out, len, answer)
         });
         self.count(expected.number);
@@ -158,7 +158,7 @@ impl Desk {
         let (rs, rl) = rows.lent();
         // SAFETY: `rows` lives on, and nothing is written.
         let mut said = unsafe { raw::lookahead_check(table.prod0, table.k, rs, rl) };
-        if self.fault == Some(Fault::Number) {
+        if self.spoil == Some(Spoil::Number) {
             said ^= 1;
         }
         assert_eq!(said, expected, "for check {table:?}");
@@ -173,10 +173,10 @@ impl Desk {
     }
 
     #[rustfmt::skip]
-    pub fn predict(&mut self, w: &mut Walked, mode: Mode, stream: usize, tokens: &[u16]) -> Answer<(i32, usize)> {
-        let (t, m) = (w.table, number(mode, stream));
-        let input = ("predict", mode, t, stream, tokens);
-        let (asked, read) = w.lending.predict(mode, stream, tokens);
+    pub fn predict(&mut self, w: &mut Walked, mode: Mode, stream_k: usize, tokens: &[u16]) -> Answer<(i32, usize)> {
+        let (t, m) = (w.table, number(mode, stream_k));
+        let input = ("predict", mode, t, stream_k, tokens);
+        let (asked, read) = w.lending.predict(mode, stream_k, tokens);
         let expected = Expected::of(read, |(production, entered)| {
             ([production as u64, entered as u64, 0, 0], Vec::new())
         });
@@ -184,7 +184,7 @@ impl Desk {
         let ((rs, rl), (ts, tl)) = (w.rows.lent(), held.lent());
         // SAFETY: `w.rows` and `held` live on; `answer` is lent for this call alone.
         self.plain(&expected, &input, |answer| unsafe {
-            raw::lookahead_predict(m, t.prod0, t.k, rs, rl, stream, ts, tl, answer)
+            raw::lookahead_predict(m, t.prod0, t.k, rs, rl, stream_k, ts, tl, answer)
         });
         self.kept(&mut held, |n| n ^ 1, &input);
         self.kept(&mut w.rows, |n| n ^ 1, &input);
@@ -194,16 +194,16 @@ impl Desk {
 
     /// A batch: by the words of request 2, from the answers for its windows one by one.
     #[rustfmt::skip]
-    pub fn batch(&mut self, w: &mut Walked, mode: Mode, stream: usize, count: usize, tokens: &[u16], room: usize) {
+    pub fn batch(&mut self, w: &mut Walked, mode: Mode, stream_k: usize, count: usize, tokens: &[u16], room: usize) {
         let (t, m) = (w.table, number(mode, count));
-        let input = ("batch", mode, t, stream, count, tokens, room);
-        let (asked, read) = batch(w, mode, stream, count, tokens, room);
+        let input = ("batch", mode, t, stream_k, count, tokens, room);
+        let (asked, read) = batch(w, mode, stream_k, count, tokens, room);
         let expected = Expected::of(read, |said| ([said.len() as u64, 0, 0, 0], said));
         let mut held = Held::new(tokens);
         let ((rs, rl), (ts, tl)) = (w.rows.lent(), held.lent());
         // SAFETY: `w.rows` and `held` live on; `out` and `answer` are lent for this call alone.
         self.made(&expected, room, &input, |out, len, answer| unsafe {
-            raw::lookahead_batch(m, t.prod0, t.k, rs, rl, stream, count, ts, tl, out, len, answer)
+            raw::lookahead_batch(m, t.prod0, t.k, rs, rl, stream_k, count, ts, tl, out, len, answer)
         });
         self.kept(&mut held, |n| n ^ 1, &input);
         self.kept(&mut w.rows, |n| n ^ 1, &input);
@@ -236,7 +236,7 @@ impl Desk {
 
 /// Whether the Rust was asked of each window, and the answers: the production, or minus the refusal number.
 #[rustfmt::skip]
-fn batch(w: &Walked, mode: Mode, stream: usize, count: usize, tokens: &[u16], room: usize)
+fn batch(w: &Walked, mode: Mode, stream_k: usize, count: usize, tokens: &[u16], room: usize)
     -> (bool, Answer<Vec<i32>>) {
     let one = Refusal::Plain(1);
     if w.check == Err(one) || count.checked_mul(w.table.k) != Some(tokens.len()) || count > 4_096 || count > room {
@@ -245,11 +245,11 @@ fn batch(w: &Walked, mode: Mode, stream: usize, count: usize, tokens: &[u16], ro
     if let Err(refusal) = w.check {
         return (false, Err(refusal));
     }
-    if stream < w.table.k {
+    if stream_k < w.table.k {
         return (false, Err(Refusal::Plain(9)));
     }
     let windows = (0..count).map(|i| &tokens[i * w.table.k..][..w.table.k]);
-    let said: Vec<_> = windows.map(|window| w.lending.predict(mode, stream, window)).collect();
+    let said: Vec<_> = windows.map(|window| w.lending.predict(mode, stream_k, window)).collect();
     let asked = count > 0 && said.iter().all(|(asked, _)| *asked);
     (asked, Ok(said.into_iter().map(|(_, answer)| answered(answer)).collect()))
 }

@@ -1,7 +1,7 @@
 //! Where a call is made and everything that it leaves is looked at.
 
 use crate::expected::Expected;
-use crate::fault::Fault;
+use crate::spoil::Spoil;
 use std::fmt::Debug;
 
 /// Numbers behind an output slice that must stay as they were.
@@ -10,7 +10,7 @@ pub const GUARD: usize = 128;
 /// What an answer holds before a call, so that a value that is not written shows.
 const UNWRITTEN: u64 = 0xdead_beef_dead_beef;
 
-/// How a fault on purpose changes a number.
+/// How a number is spoilt.
 pub type Change<T> = fn(T) -> T;
 
 /// An output with a pattern in it, and guards behind it.
@@ -44,7 +44,7 @@ impl<'a, T: Copy + PartialEq + Debug> Held<'a, T> {
         (self.now.as_mut_ptr(), self.now.len())
     }
 
-    /// For faults on purpose.
+    /// Spoils the last element, if there is one.
     pub fn spoil(&mut self, change: impl FnOnce(T) -> T) -> bool {
         let last = self.now.last_mut();
         last.map(|n| *n = change(*n)).is_some()
@@ -56,7 +56,7 @@ impl<'a, T: Copy + PartialEq + Debug> Held<'a, T> {
     }
 }
 
-/// The outputs, the counts, and the fault that is made on purpose, if any.
+/// The outputs, the counts, and what is spoilt on purpose, if anything.
 pub struct Desk {
     pub rows: Output<i32>,
     pub bytes: Output<u8>,
@@ -65,7 +65,7 @@ pub struct Desk {
     pub asked: u64,
     /// How many were accepted (0) and refused by each number.
     pub by: [u64; 15],
-    pub fault: Option<Fault>,
+    pub spoil: Option<Spoil>,
 }
 
 impl Desk {
@@ -77,7 +77,7 @@ impl Desk {
             cases: 0,
             asked: 0,
             by: [0; 15],
-            fault: None,
+            spoil: None,
         }
     }
 
@@ -90,8 +90,8 @@ impl Desk {
     ) {
         let mut answer = [UNWRITTEN; 4];
         let mut number = call(answer.as_mut_ptr());
-        if let Some(fault) = self.fault {
-            fault.answer(&mut number, &mut answer);
+        if let Some(spoil) = self.spoil {
+            spoil.answer(&mut number, &mut answer);
         }
         answers(expected, number, answer, input);
         self.count(number);
@@ -109,7 +109,7 @@ impl Desk {
 pub fn with_output<T: Copy + PartialEq + Debug>(
     output: &mut Output<T>,
     room: usize,
-    fault: Option<(Fault, Change<T>)>,
+    spoil: Option<(Spoil, Change<T>)>,
     expected: &Expected<T>,
     input: &impl Debug,
     call: impl FnOnce(*mut T, usize, *mut u64) -> usize,
@@ -118,9 +118,9 @@ pub fn with_output<T: Copy + PartialEq + Debug>(
     let mut answer = [UNWRITTEN; 4];
     let mut number = call(output.now.as_mut_ptr(), room, answer.as_mut_ptr());
     let front = expected.front.len();
-    if let Some((fault, change)) = fault {
-        fault.answer(&mut number, &mut answer);
-        fault.output(&mut output.now, front, room, change);
+    if let Some((spoil, change)) = spoil {
+        spoil.answer(&mut number, &mut answer);
+        spoil.output(&mut output.now, front, room, change);
     }
     answers(expected, number, answer, input);
     let now = &output.now;

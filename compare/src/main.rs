@@ -1,17 +1,17 @@
 //! The proved calls beside the Rust and the reading of document 01, on the same inputs.
 //!
 //! `compare` is the short run, `compare long [ROUNDS]` the long one, of ten rounds if no number is named.
-//! `compare faults` shows that differences are reported; `compare fault` is a short run with one number changed on
-//! purpose, which must fail.
+//! `compare spoilt` spoils our answers on purpose, to show that differences are reported; `compare spoilt run` is a
+//! short run that is spoilt, which must fail.
 
 mod calls;
 mod damage;
 mod desk;
 mod expected;
 mod families;
-mod fault;
-mod faults;
 mod part;
+mod spoil;
+mod spoilt;
 mod work;
 
 fn main() {
@@ -21,10 +21,10 @@ fn main() {
         [] => work::run(1, false, None),
         ["long"] => work::run(work::LONG, true, None),
         ["long", rounds] => work::run(rounds.parse().expect("a count of rounds"), true, None),
-        ["fault"] => work::run(1, false, Some(fault::Fault::Behind)),
-        ["faults"] => faults::run(),
+        ["spoilt"] => spoilt::run(),
+        ["spoilt", "run"] => work::run(1, false, Some(spoil::Spoil::Behind)),
         _ => {
-            eprintln!("compare [long [ROUNDS] | faults | fault]");
+            eprintln!("compare [long [ROUNDS] | spoilt [run]]");
             std::process::exit(2);
         }
     }

@@ -2,8 +2,8 @@
 
 use crate::desk::Desk;
 use crate::families::{ALL, Family};
-use crate::fault::Fault;
 use crate::part::Part;
+use crate::spoil::Spoil;
 use std::panic::{AssertUnwindSafe, catch_unwind};
 use std::sync::Mutex;
 use std::sync::atomic::{AtomicUsize, Ordering};
@@ -29,8 +29,8 @@ struct Job {
     part: Part,
 }
 
-/// Runs all families, with a fault on purpose or without; exits with 1 at the first difference.
-pub fn run(rounds: usize, long: bool, fault: Option<Fault>) {
+/// Runs all families, spoilt on purpose or not; exits with 1 at the first difference.
+pub fn run(rounds: usize, long: bool, spoil: Option<Spoil>) {
     let jobs = jobs(rounds, long);
     let next = AtomicUsize::new(0);
     let sums = Mutex::new([Sum::default(); ALL.len()]);
@@ -39,7 +39,7 @@ pub fn run(rounds: usize, long: bool, fault: Option<Fault>) {
         for _ in 0..threads {
             scope.spawn(|| {
                 while let Some(job) = jobs.get(next.fetch_add(1, Ordering::Relaxed)) {
-                    let sum = worked(&ALL[job.family], job.part, fault);
+                    let sum = worked(&ALL[job.family], job.part, spoil);
                     let mut sums = sums.lock().unwrap();
                     let of = &mut sums[job.family];
                     of.cases += sum.cases;
@@ -73,10 +73,10 @@ fn jobs(rounds: usize, long: bool) -> Vec<Job> {
     jobs
 }
 
-fn worked(family: &Family, part: Part, fault: Option<Fault>) -> Sum {
+fn worked(family: &Family, part: Part, spoil: Option<Spoil>) -> Sum {
     let begun = Instant::now();
     let mut desk = Desk::new();
-    desk.fault = fault;
+    desk.spoil = spoil;
     // The panic has already printed the input.
     if catch_unwind(AssertUnwindSafe(|| (family.run)(&mut desk, part))).is_err() {
         eprintln!(

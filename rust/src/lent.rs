@@ -50,7 +50,7 @@ pub struct Made {
     pub k: usize,
     /// The count of rows.
     pub rows: usize,
-    /// The count of states; of a table that was read from text 0, since text does not tell it.
+    /// The count of states.
     pub states: usize,
 }
 
@@ -61,11 +61,7 @@ impl Made {
     /// If `out` is shorter than the rows: only another slice than the one that was written can be.
     #[must_use]
     pub fn lent(self, out: &[i32]) -> Lent<'_> {
-        Lent {
-            prod0: self.prod0,
-            k: self.k,
-            rows: &out[..4 * self.rows],
-        }
+        front(self.prod0, self.k, self.rows, out)
     }
 
     fn of(values: [u64; 4]) -> Made {
@@ -76,6 +72,42 @@ impl Made {
             states: values[3] as usize,
         }
     }
+}
+
+/// A table that was read from text, its rows at the front of the output. Text does not tell how many states it has.
+#[derive(Debug, Clone, Copy, PartialEq, Eq)]
+pub struct Read {
+    /// What state 0 accepts, -1 for nothing.
+    pub prod0: i32,
+    /// How many tokens a prediction needs.
+    pub k: usize,
+    /// The count of rows.
+    pub rows: usize,
+}
+
+impl Read {
+    /// The table at the front of the output that it was read into.
+    ///
+    /// # Panics
+    /// As [`Made::lent`].
+    #[must_use]
+    pub fn lent(self, out: &[i32]) -> Lent<'_> {
+        front(self.prod0, self.k, self.rows, out)
+    }
+
+    fn of(values: [u64; 4]) -> Read {
+        Read {
+            prod0: values[0] as i32 - 1,
+            k: values[1] as usize,
+            rows: values[2] as usize,
+        }
+    }
+}
+
+/// The table whose rows stand at the front of `out`.
+fn front(prod0: i32, k: usize, rows: usize, out: &[i32]) -> Lent<'_> {
+    let rows = &out[..4 * rows];
+    Lent { prod0, k, rows }
 }
 
 /// A prediction: the production, and the count of rows entered.
@@ -102,9 +134,10 @@ fn asked(call: impl FnOnce(*mut u64) -> usize) -> Result<[u64; 4], Refusal> {
 
 // SAFETY of all calls below: each pointer and length is a live slice's; `out` and `answer` are borrowed alone; the
 // library keeps none of them.
+// Predict and explain are inlined, since on a table of few rows one more call shows.
 
-/// The tree of a list of strings, whose tokens stand one after the other, under one production.
-/// Refuses by 1, 2, 14.
+/// The tree of a list of strings, whose tokens stand one after the other, under one production. A list without strings
+/// makes state 0 accept. Refuses by 1, 2, 14.
 #[rustfmt::skip]
 pub fn build(production: i32, tokens: &[u16], lengths: &[usize], out: &mut [i32]) -> Result<Made, Refusal> {
     asked(|answer| unsafe {
@@ -132,8 +165,7 @@ pub fn shrink(mode: Mode, t: Lent, out: &mut [i32]) -> Result<Made, Refusal> {
 }
 
 /// Lists built, united one after the other and shrunk in intake mode. List i has `counts[i]` strings under
-/// `productions[i]`; the strings' lengths and tokens stand one after the other. A list without strings makes state 0
-/// accept, in both modes.
+/// `productions[i]`; the strings' lengths and tokens stand one after the other.
 ///
 /// Refuses by 1 (no list, other counts than lists, sums that do not fit, a short `out`), then as the first step that
 /// refuses: by 1, 2 or 14 of a list, by 8 or 14 of uniting it.
@@ -152,12 +184,13 @@ pub fn check(t: Lent) -> Result<(), Refusal> {
     Refusal::of(number, &[0; 4]).map_or(Ok(()), Err)
 }
 
-/// The production that the first k tokens mean, in a stream whose own k is `stream`. Refuses by 1, 2, 3, 9, 10, then 11
-/// or 12.
+/// The production that the first k tokens mean, in a stream whose own k is `stream_k`. Refuses by 1, 2, 3, 9, 10, then
+/// 11 or 12.
 #[rustfmt::skip]
-pub fn predict(mode: Mode, t: Lent, stream: usize, tokens: &[u16]) -> Result<Predicted, Refusal> {
+#[inline]
+pub fn predict(mode: Mode, t: Lent, stream_k: usize, tokens: &[u16]) -> Result<Predicted, Refusal> {
     asked(|answer| unsafe {
-        raw::lookahead_predict(mode.number(), t.prod0, t.k, t.rows.as_ptr(), t.rows.len(), stream, tokens.as_ptr(),
+        raw::lookahead_predict(mode.number(), t.prod0, t.k, t.rows.as_ptr(), t.rows.len(), stream_k, tokens.as_ptr(),
             tokens.len(), answer)
     }).map(predicted)
 }
@@ -181,10 +214,10 @@ pub fn predict(mode: Mode, t: Lent, stream: usize, tokens: &[u16]) -> Result<Pre
 /// # Ok::<(), Refusal>(())
 /// ```
 #[rustfmt::skip]
-pub fn batch(mode: Mode, t: Lent, stream: usize, count: usize, tokens: &[u16], out: &mut [i32])
+pub fn batch(mode: Mode, t: Lent, stream_k: usize, count: usize, tokens: &[u16], out: &mut [i32])
     -> Result<usize, Refusal> {
     asked(|answer| unsafe {
-        raw::lookahead_batch(mode.number(), t.prod0, t.k, t.rows.as_ptr(), t.rows.len(), stream, count,
+        raw::lookahead_batch(mode.number(), t.prod0, t.k, t.rows.as_ptr(), t.rows.len(), stream_k, count,
             tokens.as_ptr(), tokens.len(), out.as_mut_ptr(), out.len(), answer)
     }).map(|values| values[0] as usize)
 }
@@ -196,9 +229,10 @@ fn predicted(values: [u64; 4]) -> Predicted {
     }
 }
 
-/// The count of tokens that have a row one after the other, and the rows that leave the state where the next has none.
-/// Refuses by 1, 2, 3.
+/// The count of tokens that have a row one after the other, and the rows that leave the state where the next has none;
+/// the empty stretch at the end of `t.rows` if every token matched or that state has no rows. Refuses by 1, 2, 3.
 #[rustfmt::skip]
+#[inline]
 pub fn explain<'a>(t: Lent<'a>, tokens: &[u16]) -> Result<(usize, &'a [i32]), Refusal> {
     let matched = asked(|answer| unsafe {
         raw::lookahead_explain(t.prod0, t.k, t.rows.as_ptr(), t.rows.len(), tokens.as_ptr(), tokens.len(), answer)
@@ -211,11 +245,20 @@ pub fn explain<'a>(t: Lent<'a>, tokens: &[u16]) -> Result<(usize, &'a [i32]), Re
 }
 
 /// A table from its text. Refuses by 1 for the output, 13, 1 for over 4,096 rows, 2, 3.
+///
+/// ```
+/// use lookahead::lent::{self, ROOM};
+///
+/// let mut out = [0; ROOM];
+/// let t = lent::text_in(b"Dfa(-1, 1)\nTrans(0, 5, 1, 1),\n", &mut out)?.lent(&out);
+/// assert_eq!((-1, 1, &[0, 5, 1, 1][..]), (t.prod0, t.k, t.rows));
+/// # Ok::<(), lookahead::Refusal>(())
+/// ```
 #[rustfmt::skip]
-pub fn text_in(text: &[u8], out: &mut [i32]) -> Result<Made, Refusal> {
+pub fn text_in(text: &[u8], out: &mut [i32]) -> Result<Read, Refusal> {
     asked(|answer| unsafe {
         raw::lookahead_text_in(text.as_ptr(), text.len(), out.as_mut_ptr(), out.len(), answer)
-    }).map(Made::of)
+    }).map(Read::of)
 }
 
 /// A table's text; the answer is its length. Refuses by 1, 2, 3.

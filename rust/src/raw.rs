@@ -41,13 +41,13 @@ unsafe extern "C" {
     ///
     /// # Safety
     /// As for [`lookahead_build`].
-    pub fn lookahead_predict(mode: u32, prod0: i32, k: usize, rows: *const i32, rows_len: usize, stream: usize,
+    pub fn lookahead_predict(mode: u32, prod0: i32, k: usize, rows: *const i32, rows_len: usize, stream_k: usize,
         tokens: *const u16, tokens_len: usize, answer: *mut u64) -> usize;
     /// Batch: the count of answers, one for each window.
     ///
     /// # Safety
     /// As for [`lookahead_build`].
-    pub fn lookahead_batch(mode: u32, prod0: i32, k: usize, rows: *const i32, rows_len: usize, stream: usize,
+    pub fn lookahead_batch(mode: u32, prod0: i32, k: usize, rows: *const i32, rows_len: usize, stream_k: usize,
         count: usize, tokens: *const u16, tokens_len: usize, out: *mut i32, out_len: usize,
         answer: *mut u64) -> usize;
     /// Explain, the first call: the count of matched tokens.

@@ -61,7 +61,8 @@ impl Table {
         Ok(Table { prod0, k, numbers })
     }
 
-    /// The tree of a list of strings under one production. Refuses by 1, 2, 14.
+    /// The tree of a list of strings under one production; a tree has one state more than rows. A list without strings
+    /// makes state 0 accept. Refuses by 1, 2, 14.
     ///
     /// ```
     /// use lookahead::{Refusal, Table};
@@ -79,7 +80,7 @@ impl Table {
     }
 
     /// Several lists built, united one after the other and shrunk, all in intake mode. The order of the lists changes
-    /// no prediction. A list without strings makes state 0 accept, in both modes.
+    /// no prediction.
     ///
     /// No list at all is 1; then the refusal of the first step that refuses: 1, 2 or 14 of a list, 8 or 14 of uniting
     /// it.
@@ -104,7 +105,8 @@ impl Table {
         Ok(Shrunk { table, states })
     }
 
-    /// This tree and another as one. Refuses by 4 to 7 of this, 4 to 7 of the other, 8, 14.
+    /// This tree and another as one, a tree too: it has one state more than rows. Refuses by 4 to 7 of this, 4 to 7 of
+    /// the other, 8, 14.
     ///
     /// ```
     /// use lookahead::{Mode, Refusal, Table};
@@ -134,10 +136,15 @@ impl Table {
         Ok(Shrunk { table, states })
     }
 
-    /// The production that the first k tokens mean, in a stream whose own k is `stream`. Refuses by 9, 10, then 11 or
+    /// The production that the first k tokens mean, in a stream whose own k is `stream_k`. Refuses by 9, 10, then 11 or
     /// 12.
-    pub fn predict(&self, mode: Mode, stream: usize, tokens: &[u16]) -> Result<Predicted, Refusal> {
-        lent::predict(mode, self.lent(), stream, tokens)
+    pub fn predict(
+        &self,
+        mode: Mode,
+        stream_k: usize,
+        tokens: &[u16],
+    ) -> Result<Predicted, Refusal> {
+        lent::predict(mode, self.lent(), stream_k, tokens)
     }
 
     /// What [`Table::predict`] says of each of `count` windows of k tokens that stand one after the other, but for the
@@ -156,17 +163,17 @@ impl Table {
     pub fn batch(
         &self,
         mode: Mode,
-        stream: usize,
+        stream_k: usize,
         count: usize,
         tokens: &[u16],
     ) -> Result<Vec<Result<u16, Refusal>>, Refusal> {
         let mut out = vec![0; count.min(lent::WINDOWS)];
-        lent::batch(mode, self.lent(), stream, count, tokens, &mut out)?;
+        lent::batch(mode, self.lent(), stream_k, count, tokens, &mut out)?;
         Ok(out.into_iter().map(answered).collect())
     }
 
     /// The count of tokens that have a row one after the other, and the rows that leave the state where the next has
-    /// none.
+    /// none; no rows if every token matched or that state has none.
     ///
     /// ```
     /// use lookahead::Table;
@@ -175,6 +182,7 @@ impl Table {
     /// let (matched, rows) = t.explain(&[5, 9]);
     /// assert_eq!((1, &[1, 6, 2, 1][..]), (matched, rows.numbers()));
     /// assert_eq!(Some(6), rows.get(0).map(|row| row.terminal));
+    /// assert!(t.explain(&[5]).1.is_empty() && t.explain(&[5, 6, 9]).1.is_empty());
     /// # Ok::<(), lookahead::Refusal>(())
     /// ```
     #[must_use]
@@ -194,8 +202,9 @@ impl Table {
     /// assert_eq!(Err(Refusal::Text(10)), "Dfa(4, 0)\nTrans\n".parse::<Table>());
     /// ```
     pub fn from_text(text: &[u8]) -> Result<Table, Refusal> {
-        let (_, table) = made(|out| lent::text_in(text, out))?;
-        Ok(table)
+        let mut numbers = vec![0; ROOM];
+        let read = lent::text_in(text, &mut numbers)?;
+        at_front(read.prod0, read.k, read.rows, numbers)
     }
 
     /// The table's text. It prints as this.
@@ -258,9 +267,14 @@ fn answered(n: i32) -> Result<u16, Refusal> {
 fn made(call: impl FnOnce(&mut [i32]) -> Result<Made, Refusal>) -> Result<(usize, Table), Refusal> {
     let mut numbers = vec![0; ROOM];
     let said = call(&mut numbers)?;
-    numbers.truncate(4 * said.rows);
+    Ok((said.states, at_front(said.prod0, said.k, said.rows, numbers)?))
+}
+
+/// The table whose rows stand at the front of `numbers`.
+fn at_front(prod0: i32, k: usize, rows: usize, mut numbers: Vec<i32>) -> Result<Table, Refusal> {
+    numbers.truncate(4 * rows);
     numbers.shrink_to_fit();
-    Ok((said.states, Table::from_numbers(said.prod0, said.k, numbers)?))
+    Table::from_numbers(prod0, k, numbers)
 }
 
 impl FromStr for Table {

@@ -6,7 +6,8 @@ use crate::part::Part;
 use oracle::make;
 use oracle::reading::MODES;
 
-/// All batches of up to two windows over the small tables, with a token, an answer or the stream's k too few or too many.
+/// All batches of up to two windows over the small tables, with a token, an answer or the stream's k too few or too
+/// many.
 pub fn small(desk: &mut Desk, part: Part) {
     let all = make::walk_tables(&[-1, 1]);
     let lists = make::lists(1, 5, 2);
@@ -21,9 +22,9 @@ pub fn small(desk: &mut Desk, part: Part) {
                 if left > 1 {
                     continue;
                 }
-                for (mode, stream) in MODES.iter().flat_map(|m| (1..=2).map(move |s| (*m, s))) {
+                for (mode, stream_k) in MODES.iter().flat_map(|m| (1..=2).map(move |s| (*m, s))) {
                     for room in [count.saturating_sub(1), count, count + 3] {
-                        desk.batch(&mut lent, mode, stream, count, tokens, room);
+                        desk.batch(&mut lent, mode, stream_k, count, tokens, room);
                     }
                 }
             }
@@ -50,9 +51,9 @@ pub fn limits(desk: &mut Desk, part: Part) {
             for many in [right, right.saturating_sub(1), right.saturating_add(1)] {
                 let tokens = make::tokens(&mut dice, many.min(70_000), size.terminals);
                 for room in [count.min(4_097), 4_095, 4_096, 4_097] {
-                    let stream = dice.pick(&[k, k, k.saturating_sub(1), usize::MAX]);
+                    let stream_k = dice.pick(&[k, k, k.saturating_sub(1), usize::MAX]);
                     for mode in MODES {
-                        desk.batch(&mut lent, mode, stream, count, &tokens, room);
+                        desk.batch(&mut lent, mode, stream_k, count, &tokens, room);
                     }
                 }
             }
@@ -82,10 +83,10 @@ pub fn drawn(desk: &mut Desk, part: Part) {
             size.terminals,
         );
         let room = dice.pick(&[count, count, count + 1, count.saturating_sub(1), 4_096]);
-        let stream = dice.pick(&[16, 16, table.k, table.k.saturating_sub(1), usize::MAX]);
+        let stream_k = dice.pick(&[16, 16, table.k, table.k.saturating_sub(1), usize::MAX]);
         for mode in MODES {
-            desk.batch(&mut lent, mode, stream, count, &right, room);
+            desk.batch(&mut lent, mode, stream_k, count, &right, room);
         }
-        desk.batch(&mut lent, MODES[round % 2], stream, count, &few, room);
+        desk.batch(&mut lent, MODES[round % 2], stream_k, count, &few, room);
     }
 }

@@ -23,7 +23,7 @@ fn rows() -> Vec<[i32; 4]> {
     all
 }
 
-/// All tables of one such row with all heads; all of two such rows (in a short run every other), in all calls.
+/// All tables of one such row with all heads; all of two such rows (in a short run every other).
 pub fn tables(desk: &mut Desk, part: Part) {
     let all = rows();
     for (_, row) in all.iter().enumerate().filter(|(i, _)| part.has(*i)) {
@@ -44,7 +44,7 @@ pub fn tables(desk: &mut Desk, part: Part) {
     }
 }
 
-/// One table in every call that takes one.
+/// One table in every call that takes one but batch, which has families of its own.
 fn everywhere(desk: &mut Desk, t: Lent) {
     let good = Lent::new(-1, 1, &[0, 0, 1, 0]);
     for mode in MODES {

@@ -62,9 +62,9 @@ pub fn walks(desk: &mut Desk, part: Part) {
             let any = dice.within(0, 20);
             let count = dice.pick(&[any, any, any, table.k, under]);
             let tokens = make::tokens(&mut dice, count, size.terminals);
-            let stream = dice.pick(&[16, 16, 16, table.k, under, usize::MAX]);
+            let stream_k = dice.pick(&[16, 16, 16, table.k, under, usize::MAX]);
             for mode in MODES {
-                let _ = desk.predict(&mut lent, mode, stream, &tokens);
+                let _ = desk.predict(&mut lent, mode, stream_k, &tokens);
             }
             desk.explain(&mut lent, &tokens);
         }

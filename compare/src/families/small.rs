@@ -69,8 +69,9 @@ pub fn walks(desk: &mut Desk, part: Part) {
                 (table.prod0, table.k) = (prod0, k);
                 let mut lent = desk.lend(table.lent());
                 for window in &windows {
-                    for (mode, stream) in MODES.iter().flat_map(|m| (0..=3).map(move |s| (*m, s))) {
-                        let _ = desk.predict(&mut lent, mode, stream, &window.tokens);
+                    for (mode, stream_k) in MODES.iter().flat_map(|m| (0..=3).map(move |s| (*m, s)))
+                    {
+                        let _ = desk.predict(&mut lent, mode, stream_k, &window.tokens);
                     }
                     desk.explain(&mut lent, &window.tokens);
                 }

@@ -12,8 +12,8 @@ const TEXTS: [&str; 3] = [
     "Dfa(0, 0)\n",
 ];
 
-/// Every byte of six texts replaced by every byte, dropped, doubled, swapped with the next, or with every byte put before
-/// it; every cut; and all texts of up to 2 bytes.
+/// Every byte of six texts replaced by every byte, dropped, doubled, swapped with the next, or with every byte put
+/// before it; every cut; and all texts of up to 2 bytes.
 pub fn bytes(desk: &mut Desk, part: Part) {
     let bytes: Vec<u8> = (0..=255).collect();
     for text in TEXTS.iter().chain(&make::TEXTS).map(|t| t.as_bytes()) {

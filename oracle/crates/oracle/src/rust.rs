@@ -7,7 +7,10 @@ use parol::analysis::LookaheadDFA;
 use parol::analysis::lookahead_dfa::DFAState;
 use parol::door::Compiled;
 use parol_runtime::lexer::terminal_names;
-use parol_runtime::{LexerError, ParolError, ParserError, TokenStream, Trans};
+use parol_runtime::lexer::token_stream::NoScanner;
+use parol_runtime::{
+    LexerError, ParolError, ParserError, TokenStream, TokenVec, Trans, UnexpectedToken,
+};
 use std::collections::BTreeMap;
 
 /// `from_k_tuples` on the strings in the order given.
@@ -62,8 +65,8 @@ pub enum Predicted {
     None,
 }
 
-/// A table as the generated parsers hold it. Its rows are given back with it, so do not copy it out.
-pub struct Walker(pub parol_runtime::LookaheadDFA, *mut [Trans]);
+/// A table as the generated parsers hold it. Its rows go with it, so neither is handed out.
+pub struct Walker(parol_runtime::LookaheadDFA, *mut [Trans]);
 
 impl Walker {
     /// The rows become `&'static [Trans]`.
@@ -76,10 +79,25 @@ impl Walker {
         Walker(dfa, held)
     }
 
+    /// Calls the original and does nothing else; inlined as the original is.
+    #[inline(always)]
+    pub fn eval(&self, stream: &mut TokenStream<'_, NoScanner>) -> Result<usize, ParolError> {
+        self.0.eval(stream, 0)
+    }
+
+    /// Calls the original and does nothing else.
+    pub fn build_error(
+        &self,
+        names: &'static [&'static str],
+        stream: &TokenStream<'_, NoScanner>,
+    ) -> Result<(String, Vec<UnexpectedToken>, TokenVec), LexerError> {
+        self.0.build_error(names, stream)
+    }
+
     /// `eval`; the rows entered are only traced, as "from, terminal => to".
     pub fn predict(&self, stream_k: usize, tokens: &[u16]) -> Predicted {
         let mut stream = TokenStream::lent(tokens, stream_k);
-        let (answer, heard) = log::recorded(|| self.0.eval(&mut stream, 0));
+        let (answer, heard) = log::recorded(|| self.eval(&mut stream));
         let entered = heard.iter().filter(|m| m.contains(" => ")).count();
         match answer {
             Ok(production) => Predicted::Production(production, entered),
@@ -95,7 +113,7 @@ impl Walker {
     /// `build_error`: the count of matched tokens and the terminals expected.
     pub fn explain(&self, tokens: &[u16]) -> (usize, Vec<u16>) {
         let stream = TokenStream::lent(tokens, tokens.len());
-        let (message, seen, expected) = self.0.build_error(terminal_names(), &stream).unwrap();
+        let (message, seen, expected) = self.build_error(terminal_names(), &stream).unwrap();
         // The token at which the walk stopped is listed too; only its entry ends in a full stop.
         let matched = seen.len() - message.ends_with('.') as usize;
         let terminals = expected.names().iter().map(|n| n.parse().unwrap());

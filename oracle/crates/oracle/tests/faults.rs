@@ -115,20 +115,20 @@ fn known_faults() {
 #[test]
 fn differences_outside_the_port() {
     let expected = [
-        ("(a) 1", "1 after 1 row", "10", "10"),
+        ("padding", "1 after 1 row", "10", "10"),
         (
-            "(a) 2",
+            "order of strings",
             "prod0 -1, k 1 (0,5,1,1) (0,7,2,1), 3 states",
             "prod0 -1, k 1 (0,5,2,1) (0,7,1,1), 3 states",
             "prod0 -1, k 1 (0,5,2,1) (0,7,1,1), 3 states",
         ),
         (
-            "(a) 3",
+            "epsilon",
             "prod0 1, k 0, 1 state",
             "prod0 -1, k 1 (0,65535,1,1), 2 states",
             "prod0 -1, k 1 (0,65535,1,1), 2 states",
         ),
-        ("(a) 4", "1 after 1 row", "9", "9"),
+        ("stream's k", "1 after 1 row", "9", "9"),
     ];
     check(&outside(), &expected);
 }

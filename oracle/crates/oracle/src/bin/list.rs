@@ -5,7 +5,7 @@ use std::path::PathBuf;
 
 fn main() -> std::io::Result<()> {
     let Some(folder) = std::env::args_os().nth(1) else {
-        eprintln!("usage: list FOLDER");
+        eprintln!("usage: list FOLDER, the repository's folder `crates`");
         std::process::exit(2);
     };
     let list = oracle::list::make();

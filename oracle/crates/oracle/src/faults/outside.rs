@@ -45,12 +45,12 @@ fn walk(
 
 fn padding() -> Fault {
     let about = "parol's stream fills up with 0, so it is never short";
-    walk(Lent::new(-1, 2, &ROW), 2, &[5], ("(a) 1", about))
+    walk(Lent::new(-1, 2, &ROW), 2, &[5], ("padding", about))
 }
 
 fn stream_k_0() -> Fault {
     let about = "parol's stream takes k 0 as 1";
-    walk(Lent::new(-1, 1, &ROW), 0, &[5], ("(a) 4", about))
+    walk(Lent::new(-1, 1, &ROW), 0, &[5], ("stream's k", about))
 }
 
 /// parol's own order: by length, then by the last token first; each string once.
@@ -83,7 +83,7 @@ fn order() -> Fault {
     let strings: [&[u16]; 2] = [&[7], &[5]];
     let by_parol = rust::build(1, &parol_order(&strings));
     let about = "parol sorts the strings, here the caller's order stays";
-    built(&strings, by_parol, "7; 5 / 1", ("(a) 2", about))
+    built(&strings, by_parol, "7; 5 / 1", ("order of strings", about))
 }
 
 fn lone_65535() -> Fault {
@@ -91,5 +91,5 @@ fn lone_65535() -> Fault {
     let list = KTuples::with_parol_eps(&strings);
     let by_parol = rust::flat(&LookaheadDFA::from_k_tuples(&list, 1));
     let about = "65,535 alone is the empty string in parol";
-    built(&strings, by_parol, "65535 / 1", ("(a) 3", about))
+    built(&strings, by_parol, "65535 / 1", ("epsilon", about))
 }

@@ -7,8 +7,8 @@ pub const TEXTS: [&str; 3] = [
     "Dfa(65535, 2)\nTrans(7, 99, 1023, 1),\nTrans(8, 98, 100, 65535),\nTrans(8, 99, 2, -1),\n",
 ];
 
-/// At a place of a text: its byte dropped, doubled, swapped with the next, the text cut off, the byte changed to each of
-/// some.
+/// At a place of a text: its byte dropped, doubled, swapped with the next, the text cut off, the byte changed to each
+/// of some.
 pub fn damages(text: &[u8], place: usize, bytes: &[u8]) -> Vec<Vec<u8>> {
     let (front, back) = text.split_at(place);
     let mut all = vec![

@@ -1,8 +1,8 @@
-//! Faults made on purpose, to see that a difference is reported.
+//! What is spoilt on purpose, to see that a difference is reported.
 
 /// What is changed after a call.
 #[derive(Debug, Clone, Copy, PartialEq, Eq)]
-pub enum Fault {
+pub enum Spoil {
     /// The refusal's number.
     Number,
     /// One of the four values.
@@ -19,34 +19,34 @@ pub enum Fault {
     Input,
 }
 
-pub const ALL: [Fault; 10] = [
-    Fault::Number,
-    Fault::Value(0),
-    Fault::Value(1),
-    Fault::Value(2),
-    Fault::Value(3),
-    Fault::Front,
-    Fault::Behind,
-    Fault::End,
-    Fault::Beyond,
-    Fault::Input,
+pub const ALL: [Spoil; 10] = [
+    Spoil::Number,
+    Spoil::Value(0),
+    Spoil::Value(1),
+    Spoil::Value(2),
+    Spoil::Value(3),
+    Spoil::Front,
+    Spoil::Behind,
+    Spoil::End,
+    Spoil::Beyond,
+    Spoil::Input,
 ];
 
-impl Fault {
+impl Spoil {
     pub fn answer(self, number: &mut usize, answer: &mut [u64; 4]) {
         match self {
-            Fault::Number => *number ^= 1,
-            Fault::Value(i) => answer[i] ^= 1,
+            Spoil::Number => *number ^= 1,
+            Spoil::Value(i) => answer[i] ^= 1,
             _ => (),
         }
     }
 
     pub fn output<T: Copy>(self, now: &mut [T], front: usize, room: usize, change: fn(T) -> T) {
         let place = match self {
-            Fault::Front if front > 0 => front - 1,
-            Fault::Behind => front,
-            Fault::End if room > 0 => room - 1,
-            Fault::Beyond => room,
+            Spoil::Front if front > 0 => front - 1,
+            Spoil::Behind => front,
+            Spoil::End if room > 0 => room - 1,
+            Spoil::Beyond => room,
             _ => return,
         };
         now[place] = change(now[place]);
