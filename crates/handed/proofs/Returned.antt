@@ -1,10 +1,10 @@
 -- What a returned number tells: 0 an acceptance, 1 to 14 a refusal, after which the output is as it was.
 -- Assumes nothing.
-use mathlib.Core.Path.{_≡_, refl, sym}
+use mathlib.Core.Path.{_≡_, refl, ap, sym}
 use mathlib.Core.List.{List}
 use Prim.Native.Nat.{ℕ, _<_, _≤_}
 use native.Mathlib.Omega.{arith}
-use Rattle.laws.proofs.Refusals.{refuse-accept}
+use Rattle.laws.proofs.Refusals.{refuse-accept, refused-is}
 use Rattle.paper.specs.declared.Refusal.{Refusal}
 use Rattle.paper.specs.declared.Refusal.the-variants as refusal
 use Rattle.paper.specs.Answers.{Ruling, accept, refuse, then, number, detail}
@@ -30,8 +30,7 @@ numbered refusal.Full = (omega arith, omega arith)
 -- A ruling that some answer states: with a refusal it returns that refusal's number,
 pub refusal-returns : {A B : Type 0} (told : A → B) (g : Ruling A) (f : Refusal) →
     refuse (number f) (detail f) ≡ then g (λ a. accept (told a)) → returned g ≡ number f
-refusal-returns told (accept a) f e = refuse-accept e
-refusal-returns told (refuse n d) f e = cc
+refusal-returns told g f e = ap (λ (r : Ruling _). returned r) (refused-is told g (number f) (detail f) e)
 
 -- with values 0.
 pub values-return : {A B : Type 0} (told : A → B) (g : Ruling A) (b : B) → accept b ≡ then g (λ a. accept (told a)) →

@@ -4,10 +4,10 @@
 use mathlib.Core.Path.{_≡_, refl}
 use mathlib.Core.List.{List, [], _∷_}
 use Prim.Native.Nat.{ℕ, _*_, _≤_}
-use native.Mathlib.Omega.{arith}
 use lib.ListN.{length, take}
 use lib.IntN.{ℤ}
 use Rattle.laws.proofs.RowNumbers.{accepting-signed, rows-numbers}
+use Rattle.laws.proofs.Refusals.{refuse-accept}
 use Rattle.paper.specs.declared.Production.{Production}
 use Rattle.paper.specs.declared.Refusal.the-variants as refusal
 use Rattle.paper.specs.declared.Making.{Making}
@@ -55,9 +55,7 @@ serves ls m h p k n s old new c =
 answers : (ls : List Opening) {g : Ruling Made} → Demanded ls g → (r : Making) (old new : List ℤ) →
     Makes g r old new → Answered ls old new r
 answers ls (kept {m} h) (making.Made p k n s) old new c = served (serves ls m h p k n s old new c)
-answers ls (kept {m} h) (making.Refused f) old new c =
-    let e = c .says in
-    let z : _≡_ {A = ℕ} 0 1 = cc in absurd (omega arith)
+answers ls (kept {m} h) (making.Refused f) old new c = refuse-accept (c .says)
 answers ls (demand.clashed {p} {q} h) r old new c =
     let a : Production = record { 0 = p } in
     let b : Production = record { 0 = q } in

@@ -10,7 +10,7 @@ use borrow.Author.Tests.{eq-eqb, ne-eqb}
 use lib.Dec.{eqb}
 use lib.ListN.{length}
 use Rattle.laws.proofs.Tests.{never}
-use Rattle.laws.proofs.Refusals.{refused-is}
+use Rattle.laws.proofs.Refusals.{refuse-accept, refused-is}
 use Rattle.paper.specs.declared.Mode.{Mode}
 use Rattle.paper.specs.Rows.{Row, find}
 use Rattle.paper.specs.Answers.{Ruling, accept, refuse, then}
@@ -57,7 +57,7 @@ looked-match mode q (some x) v e = go (taken mode (x .production) q) e
   where
     go : (k : Ruling (Option ℕ)) → then k (λ _. accept (x .to)) ≡ accept v → v ≡ x .to
     go (accept z) e = cc
-    go (refuse n d) e = absurd (let z : _≡_ {A = ℕ} 0 1 = cc in omega arith)
+    go (refuse n d) e = refuse-accept e
 
 module _ (mode : Mode) (a : List ℕ → Word) (pB : Option ℕ) (D rs : List Row) (ms : List (ℕ × ℕ))
     (i : Matching mode a pB D (so-far none 0 rs ms)) (r : Row) (nx : Next D r)
