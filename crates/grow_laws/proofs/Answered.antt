@@ -11,7 +11,7 @@ use lib.IntN.{ℤ}
 use Rattle.paper.specs.declared.Making.TheVariants as making
 use Rattle.paper.specs.declared.Refusal.TheVariants as refusal
 use Rattle.paper.specs.Rows.{Table, signed}
-use Rattle.paper.specs.Answers.{accept, refuse, Made, Makes}
+use Rattle.paper.specs.Answers.{accept, refuse, Makes}
 use Rattle.paper.specs.Checks.{rising, every}
 use Rattle.paper.specs.Build.{within}
 use Rattle.rows.specs.Places.{uncoded}

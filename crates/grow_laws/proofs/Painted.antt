@@ -15,7 +15,7 @@ use lib.IntN.{ℤ}
 use Rattle.laws.proofs.Every.{every_true, every_in}
 use Rattle.laws.proofs.RowNumbers.{rows_numbers}
 use Rattle.paper.specs.Rows.{Row, signed, rows_in, numbers}
-use Rattle.paper.specs.Checks.{row_fits, production_fits, rising}
+use Rattle.paper.specs.Checks.{row_fits, production_fits}
 use Rattle.rows.specs.Places.{uncoded}
 use Rattle.rows.proofs.Fits.{Fit, fit, code_fits}
 use Rattle.trees.proofs.Find.{In}

@@ -12,7 +12,7 @@ use Rattle.laws.proofs.Tests.{Test, same, apart, test}
 use Rattle.laws.proofs.Members.{In, here, there, in_map, map_in}
 use Rattle.paper.specs.declared.Mode.{Mode}
 use Rattle.paper.specs.declared.Mode.TheVariants.{Archive, Intake}
-use Rattle.paper.specs.Rows.{Row, Table, states}
+use Rattle.paper.specs.Rows.{Row, Table}
 use Rattle.paper.specs.Checks.{shape}
 use Rattle.paper.specs.Shrink.{Node, nodes, redirect, lead, lowest, highest_rows, node_production, becomes, gather, gathered, merge_all, place, node_rows, shrunk}
 use Rattle.merging.specs.Numbers.{Ascending, asc_cons}

@@ -1,1 +1,3 @@
+#![tactic(auto)]
+
 // Theorems only: merging equal states is the quotient by marks.

@@ -1,26 +1,28 @@
 // The numbers and answers of document 01; specs/ has its definitions.
+#![tactic(auto)]
+
 ghost use Rattle.std.specs.Prelude.{◌≡◌};
 ghost use Rattle.paper.specs.Answers.{number};
 
 // Three sorts of number, so that none can stand in for another.
-#[derive(Drop)]
+#[derive(Clone, Copy)]
 pub struct State(pub u16);
 
-#[derive(Drop)]
+#[derive(Clone, Copy)]
 pub struct Terminal(pub u16);
 
-#[derive(Drop)]
+#[derive(Clone, Copy)]
 pub struct Production(pub u16);
 
 // The caller names the mode: archive as the Rust did, intake by the string lists alone.
-#[derive(Drop)]
+#[derive(Clone, Copy)]
 pub enum Mode {
     Archive,
     Intake,
 }
 
 // Why a call refuses: 1 to 14, in the order of their numbers.
-#[derive(Drop)]
+#[derive(Clone, Copy)]
 pub enum Refusal {
     Length,
     Range,
@@ -41,7 +43,7 @@ pub enum Refusal {
 }
 
 // Build, unite, shrink and intake's call: of a table whose rows stand at the front of the output.
-#[derive(Drop)]
+#[derive(Clone, Copy)]
 pub enum Making {
     Made {
         prod0: i32,
@@ -53,7 +55,7 @@ pub enum Making {
 }
 
 // Predict: the production, and the count of rows entered.
-#[derive(Drop)]
+#[derive(Clone, Copy)]
 pub enum Prediction {
     Predicted {
         production: Production,
@@ -63,21 +65,21 @@ pub enum Prediction {
 }
 
 // Explain, the first call: the count of matched tokens.
-#[derive(Drop)]
+#[derive(Clone, Copy)]
 pub enum Explanation {
     Matched(usize),
     Refused(Refusal),
 }
 
 // Text in: of a table whose rows stand at the front of the output.
-#[derive(Drop)]
+#[derive(Clone, Copy)]
 pub enum Reading {
     Read { prod0: i32, k: usize, rows: usize },
     Refused(Refusal),
 }
 
 // Text out and batch: the count of bytes, of answers, at the front of the output.
-#[derive(Drop)]
+#[derive(Clone, Copy)]
 pub enum Writing {
     Wrote(usize),
     Refused(Refusal),

@@ -1,7 +1,6 @@
 -- Demand 1: a refusal changes no lent slice. (Predict and explain lend none to write to.) Assumes nothing.
 use mathlib.Core.Path.{◌≡◌, ap, ◌∙◌}
 use mathlib.Core.List.{List}
-use Prim.Native.Nat.{ℕ}
 use lib.IntN.{ℤ}
 use Rattle.paper.specs.declared.Refusal.{Refusal}
 use Rattle.paper.specs.declared.Making.TheVariants as making

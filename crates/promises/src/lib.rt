@@ -1,1 +1,3 @@
+#![tactic(auto)]
+
 // Theorems only: demand 3, identical results, untouched slices.

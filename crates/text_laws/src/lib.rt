@@ -1,1 +1,3 @@
+#![tactic(auto)]
+
 // Theorems only: what text in and text out share.

@@ -17,6 +17,7 @@ data Dropped {A : Type 0} (x : A) (l : List A) : Type 0 where
       ((y : A) → In y l → (y ≡ x → ⊥) → In y l') → Dropped x l
 
 drop_one : {A : Type 0} (x : A) (l : List A) → In x l → Dropped x l
+drop_one {A = A} x [] x'' = elim x'' [ ]
 drop_one x (a ∷ l) (Memᴰ.head e) =
     dropped l refl (λ y i n. ⊎_elim (λ k. absurd (n (k ∙ sym e))) (λ j. j) (where_in i))
 drop_one {A} x (a ∷ l) (Memᴰ.tail i) = go (drop_one x l i)

@@ -6,7 +6,7 @@ use Prim.Native.Nat.{ℕ, suc, ◌≤◌, ◌<◌}
 use native.Mathlib.Omega.{arith}
 use lib.ListN.{length, length-map}
 use lib.Dec.{eqb}
-use Rattle.laws.proofs.Members.{In, here}
+use Rattle.laws.proofs.Members.{In}
 use Rattle.laws.proofs.Tests.{Test, same, apart, test, never}
 use Rattle.paper.specs.Rows.{Row, Table, find}
 use Rattle.paper.specs.Build.{insert, give}
