@@ -1,4 +1,6 @@
 // Check 7 and the state count, each by one array over the states.
+#![tactic(auto)]
+
 ghost use Rattle.std.specs.Prelude.{◌≡◌, ◌/◌, ◌<◌, ◌≤◌, length, get_or};
 ghost use Rattle.paper.specs.Rows.{rows_in, states};
 ghost use Rattle.paper.specs.Checks.{each_once, no_tree};

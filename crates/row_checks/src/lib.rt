@@ -1,4 +1,6 @@
 // Document 01, module 1: the checks 1 to 4, each true when it refuses, and what 2 and 3 say of a table.
+#![tactic(auto)]
+
 ghost use Rattle.std.specs.Prelude.{◌≡◌, ◌&&◌, ◌+◌, ◌*◌, ◌<◌, length, leb};
 ghost use Rattle.paper.specs.Rows.{table};
 ghost use Rattle.paper.specs.Checks.{row_slice, row_fits, shape, plain};
@@ -9,7 +11,7 @@ use paper::Refusal;
 use rows::numbers;
 
 // What the checks say.
-#[derive(Drop)]
+#[derive(Clone, Copy)]
 pub enum Verdict {
     Pass,
     Refused(Refusal),

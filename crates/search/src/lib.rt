@@ -1,4 +1,6 @@
 // The row of a state and a terminal, and the stretch of a state's rows, in rows that passed 2 and 3.
+#![tactic(auto)]
+
 ghost use Rattle.std.specs.Prelude.{◌+◌, ◌*◌, ◌<◌, ◌≤◌, ◌/◌, length};
 ghost use Rattle.paper.specs.Rows.{begin, leaving};
 ghost use Rattle.rows.specs.Passed.{Passed};
@@ -8,14 +10,14 @@ use paper::{State, Terminal};
 use rows::numbers;
 
 // Where the row of a state and a terminal is, or where it would go.
-#[derive(Drop)]
+#[derive(Clone, Copy)]
 pub enum Found {
     At(usize),
     Missing(usize),
 }
 
 // Where the rows of a state begin, or its first row would go, and how many they are.
-#[derive(Drop)]
+#[derive(Clone, Copy)]
 pub struct Span {
     pub begin: usize,
     pub count: usize,

@@ -1,4 +1,6 @@
 // Document 01, module 5: the walk of predict, in rows that passed 2 and 3.
+#![tactic(auto)]
+
 ghost use Rattle.std.specs.Prelude.{◌≡◌, ◌/◌, ◌<◌, length};
 ghost use Rattle.paper.specs.Rows.{rows_in};
 ghost use Rattle.paper.specs.Predict.{start, step, walk};
@@ -11,14 +13,14 @@ use rows::numbers;
 use search::Found;
 
 // The production of the last accepting row entered.
-#[derive(Drop)]
+#[derive(Clone, Copy)]
 pub enum Reached {
     Nothing,
     Accepting(Production),
 }
 
 // The walk: its state, the count of rows entered, what it has reached.
-#[derive(Drop)]
+#[derive(Clone, Copy)]
 pub struct Walk {
     pub state: State,
     pub entered: usize,
