@@ -1,4 +1,6 @@
 // Document 01, module 2: build.
+#![tactic(auto)]
+
 ghost use Rattle.std.specs.Prelude.{length};
 ghost use Rattle.paper.specs.Answers.{Makes};
 ghost use Rattle.paper.specs.Build.{within, built, strings, build};

@@ -1,4 +1,6 @@
 // The checks 1 and 2 of build: each true when it refuses.
+#![tactic(auto)]
+
 ghost use Rattle.std.specs.Prelude.{◌≡◌, eqb, ltb};
 ghost use Rattle.paper.specs.Checks.{any};
 ghost use Rattle.paper.specs.Build.{sum, build_lengths, build_range};

@@ -1,4 +1,6 @@
 // A string walked into the rows of an array, states added in order of need.
+#![tactic(auto)]
+
 ghost use Rattle.std.specs.Prelude.{◌≤◌};
 ghost use Rattle.grow_laws.specs.Held.{view, held, Laid, Missed};
 ghost use Rattle.trees.proofs.Tree.{Tree};
@@ -9,7 +11,7 @@ use search::Found;
 
 // Where a walk stands: where the rows begin and how many they are, its state, and the row into it by its number plus
 // one, 0 for none.
-#[derive(Drop)]
+#[derive(Clone, Copy)]
 pub enum Step {
     On {
         lo: usize,

@@ -1,4 +1,6 @@
 // All strings of a list, one after the other, and the table that they make.
+#![tactic(auto)]
+
 ghost use Rattle.std.specs.Prelude.{◌≡◌, ◌≤◌, length};
 ghost use Rattle.paper.specs.Build.{built, strings, sum};
 ghost use Rattle.grow_laws.specs.Held.{view, Laid};
@@ -8,7 +10,7 @@ use build_string::Step;
 use paper::{Production, State};
 
 // A table: where the rows begin and how many they are, the code of its prod0, and k.
-#[derive(Drop)]
+#[derive(Clone, Copy)]
 pub enum Table {
     Rows {
         lo: usize,

@@ -1,4 +1,6 @@
 // Rows that grow: n rows stand in a lent array from row lo on, and a new row moves the fewer of them, up or down.
+#![tactic(auto)]
+
 ghost use Rattle.std.specs.Prelude.{◌≡◌, ◌+◌, ◌*◌, ◌<◌, ◌≤◌, max, length};
 ghost use Rattle.paper.specs.Answers.{Makes};
 ghost use Rattle.paper.specs.Build.{within};

@@ -1,4 +1,6 @@
 // A row put in among n rows that begin at row lo: the rows at the nearer end make room for it.
+#![tactic(auto)]
+
 ghost use Rattle.std.specs.Prelude.{◌*◌, ◌<◌, ◌≤◌, length};
 ghost use Rattle.grow_laws.specs.Moves.{Inserted, Slid};
 ghost use Rattle.grow_laws.specs.Held.{view};

@@ -1,4 +1,6 @@
 // Rows of an array moved up or down, and a row put in the room that they leave.
+#![tactic(auto)]
+
 pub mod down;
 pub mod up;
 
