@@ -11,7 +11,7 @@ use lib.ListN.{length}
 use lib.IntN.{ℤ}
 use Rattle.laws.proofs.Every.{neither, every_in}
 use Rattle.paper.specs.Rows.{Table, accepting, rows_in, table}
-use Rattle.paper.specs.Checks.{row_slice, range, row_fits, tree}
+use Rattle.paper.specs.Checks.{row_slice, row_fits, tree}
 use Rattle.rows.specs.Places.{code}
 use Rattle.row_checks.specs.Verdicts.{Judges}
 use Rattle.row_checks.specs.declared.Verdict.TheVariants.{Pass}

@@ -1,4 +1,6 @@
 // Document 01, module 3: unite.
+#![tactic(auto)]
+
 ghost use Rattle.std.specs.Prelude.{◌≤◌, length};
 ghost use Rattle.paper.specs.Rows.{rows_in, table};
 ghost use Rattle.paper.specs.Answers.{Makes};

@@ -1,4 +1,6 @@
 // The productions that one state has in the two tables, as codes.
+#![tactic(auto)]
+
 ghost use Rattle.std.specs.Prelude.{◌≡◌, ◌≤◌};
 ghost use Rattle.paper.specs.Unite.{agree, taken, root, united_k};
 ghost use Rattle.rows.specs.Places.{uncoded};
@@ -7,7 +9,7 @@ ghost use Rattle.unite_meet.specs.Met.{Meets};
 use paper::{Mode, Production};
 
 // The code that the state takes, or CLASH: the first's production, then the second's.
-#[derive(Drop)]
+#[derive(Clone, Copy)]
 pub enum Meet {
     Code(usize),
     Clash(Production, Production),

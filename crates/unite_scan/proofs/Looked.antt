@@ -103,6 +103,8 @@ module _ (mode : Mode) (rs : List Row) (s t : ℕ) (q : Option ℕ) where
       → taking mode rs s t q o ≡ refuse n d
   unfolding looked taking
   alike_refused none none neither n d e = absurd (let z : ◌≡◌ {A = ℕ} 0 1 = cc in omega arith)
+  alike_refused none (some z) x4 n d e = elim x4 [ ]
+  alike_refused (some x) none x5 n d e = elim x5 [ ]
   alike_refused (some x) (some z) (both k) n d e =
       rw (← k, refused_is (λ _. x.to) (taken mode x.production q) n d (sym e))
 
@@ -110,6 +112,8 @@ module _ (mode : Mode) (rs : List Row) (s t : ℕ) (q : Option ℕ) where
       → (w : Standing) × (taking mode rs s t q o ≡ accept w)
   unfolding looked taking
   alike_taken none none neither v e = (_, refl)
+  alike_taken none (some z) x4 v e = elim x4 [ ]
+  alike_taken (some x) none x5 v e = elim x5 [ ]
   alike_taken (some x) (some z) (both k) v e = rw (← k) (go (taken mode x.production q) e)
     where
       go : (g : Ruling (Option ℕ)) → ◌≡◌ {A = Ruling ℕ} (then g (λ _. accept x.to)) (accept v)

@@ -1,4 +1,6 @@
 // The rows of the second looked up in the first alone: whether two productions clash.
+#![tactic(auto)]
+
 ghost use Rattle.std.specs.Prelude.{◌/◌, ◌<◌, ◌≤◌, length};
 ghost use Rattle.paper.specs.Rows.{rows_in};
 ghost use Rattle.rows.specs.Places.{row_at, uncoded};
@@ -14,14 +16,14 @@ use search::Found;
 use unite_meet::Meet;
 
 // What one row comes to: CLASH, or the state of the first that it matches, 65,535 for none.
-#[derive(Drop)]
+#[derive(Clone, Copy)]
 pub enum Look {
     Clash(Production, Production),
     Match(State),
 }
 
 // CLASH, or none.
-#[derive(Drop)]
+#[derive(Clone, Copy)]
 pub enum Scan {
     Clash(Production, Production),
     Free,

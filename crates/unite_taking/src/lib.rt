@@ -1,4 +1,6 @@
 // The rows of the second table taken into the rows of an array, in order.
+#![tactic(auto)]
+
 ghost use Rattle.std.specs.Prelude.{◌≤◌};
 ghost use Rattle.paper.specs.Rows.{find, rows_in};
 ghost use Rattle.rows.specs.Places.{uncoded};
@@ -13,7 +15,7 @@ use search::Found;
 use unite_meet::Meet;
 
 // What came of one row: where the rows begin, how many they are and the state that it matches; CLASH; or a row too many.
-#[derive(Drop)]
+#[derive(Clone, Copy)]
 pub enum Took {
     Row {
         lo: usize,
@@ -25,7 +27,7 @@ pub enum Took {
 }
 
 // What came of all rows: where the rows begin and how many they are, CLASH, or a row too many.
-#[derive(Drop)]
+#[derive(Clone, Copy)]
 pub enum Union {
     Rows { lo: usize, rows: usize },
     Clash(Production, Production),
