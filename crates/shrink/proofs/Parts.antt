@@ -16,7 +16,7 @@ use Rattle.paper.specs.declared.Mode.{Mode}
 use Rattle.paper.specs.declared.Making.{Making}
 use Rattle.paper.specs.declared.Making.TheVariants as making
 use Rattle.paper.specs.declared.Refusal.{Refusal}
-use Rattle.paper.specs.Rows.{Row, Table, accepting, signed, rows_in, table, states}
+use Rattle.paper.specs.Rows.{Row, Table, accepting, signed, rows_in, table}
 use Rattle.paper.specs.Answers.{Ruling, accept, refuse, Made, Makes, number, detail}
 use Rattle.paper.specs.Checks.{row_slice, little_room, shape, split, ruled}
 use Rattle.paper.specs.Shrink.{production_of, rows_of, shrunk, shrink_table, shrink}
@@ -24,7 +24,6 @@ use Rattle.rows.specs.Places.{code, uncoded}
 use Rattle.rows.specs.Passed.{Passed}
 use Rattle.row_checks.specs.Verdicts.{Judges, follow}
 use Rattle.row_checks.specs.declared.Verdict.{Verdict}
-use Rattle.row_checks.specs.declared.Verdict.TheVariants.{Refused}
 use Rattle.row_checks.proofs.Judged.{judged, bounded}
 use Rattle.counts.specs.Arrays.{Fitting}
 use Rattle.ruled.proofs.Passes.{ruled_passed, ruled_rows, fitting}

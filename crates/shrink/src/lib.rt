@@ -1,4 +1,6 @@
 // Document 01, module 4: shrink.
+#![tactic(auto)]
+
 ghost use Rattle.std.specs.Prelude.{◌≡◌, false, ◌≤◌, length};
 ghost use Rattle.paper.specs.Rows.{rows_in, table};
 ghost use Rattle.paper.specs.Answers.{accept, Makes};
@@ -18,7 +20,7 @@ use shrink_classes::classes;
 use shrink_rows::emit;
 
 // How many rows and states a shrunk table has.
-#[derive(Drop)]
+#[derive(Clone, Copy)]
 struct Sizes {
     pub rows: usize,
     pub states: usize,

@@ -1,3 +1,5 @@
 // Shrink: where each state's rows begin, and which states become one.
+#![tactic(auto)]
+
 pub mod index;
 pub mod same;

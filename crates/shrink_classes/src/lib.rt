@@ -1,2 +1,4 @@
 // Shrink: the classes of states that become one.
+#![tactic(auto)]
+
 pub mod classes;

@@ -1,4 +1,6 @@
 // New numbers: each class gets the next one at its lowest state.
+#![tactic(auto)]
+
 ghost use Rattle.std.specs.Prelude.{◌≡◌, ◌<◌, ◌≤◌, length};
 ghost use Rattle.paper.specs.Rows.{rows_in};
 ghost use Rattle.ruled.specs.Into.{Marked};

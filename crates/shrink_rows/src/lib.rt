@@ -1,2 +1,4 @@
 // Shrink: the rows of the shrunk table.
+#![tactic(auto)]
+
 pub mod emit;

@@ -1,4 +1,6 @@
 // The kept states, found by a number: states that become one have one number.
+#![tactic(auto)]
+
 ghost use Rattle.std.specs.Prelude.{◌≡◌, ◌<◌};
 ghost use Rattle.shrink_alike.specs.Index.{Indexed};
 ghost use Rattle.shrink_alike.specs.Faces.{coded, mark_in, like};
