@@ -1,4 +1,6 @@
 // Request 2: prediction for a batch of windows of exactly k tokens, one after the other.
+#![tactic(auto)]
+
 ghost use Rattle.std.specs.Prelude.{◌≡◌, not, ◌++◌, ◌+◌, ◌*◌, ◌≤◌, length, take, drop, eqb};
 ghost use Rattle.paper.specs.Rows.{table};
 ghost use Rattle.paper.specs.Answers.{predicted, number, Writes};

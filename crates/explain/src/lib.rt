@@ -1,4 +1,6 @@
 // Document 01, module 6: explain.
+#![tactic(auto)]
+
 ghost use Rattle.std.specs.Prelude.{◌≡◌, false, ◌+◌, ◌-◌, ◌*◌, ◌<◌, ◌≤◌, length};
 ghost use Rattle.paper.specs.Rows.{rows_in};
 ghost use Rattle.paper.specs.Answers.{explained};
@@ -12,7 +14,7 @@ use rows::numbers;
 use search::Found;
 
 // Where the walk stopped: the state, the count of matched tokens, and whether a token was left over.
-#[derive(Drop)]
+#[derive(Clone, Copy)]
 pub struct Stop {
     pub state: State,
     pub matched: usize,
@@ -63,7 +65,7 @@ pub fn matched(prod0: i32, k: usize, rows: &[i32], tokens: &[u16]) -> Explanatio
 }
 
 // A stretch of a row slice: where it begins and how long it is, in numbers.
-#[derive(Drop)]
+#[derive(Clone, Copy)]
 pub struct Part {
     pub start: usize,
     pub count: usize,

@@ -1,4 +1,6 @@
 // Document 01, module 5: predict.
+#![tactic(auto)]
+
 ghost use Rattle.std.specs.Prelude.{◌≡◌, ◌≤◌, length};
 ghost use Rattle.paper.specs.Rows.{accepting, table};
 ghost use Rattle.paper.specs.Answers.{predicted};
