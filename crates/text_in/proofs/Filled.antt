@@ -6,7 +6,7 @@ use mathlib.Core.List.{List, [], ◌++◌}
 use native.Mathlib.Omega.{arith}
 use lib.IntN.{ℤ}
 use lib.ListN.{length}
-use Rattle.paper.specs.Rows.{Row, rows_in}
+use Rattle.paper.specs.Rows.{rows_in}
 use Rattle.paper.specs.Answers.{Ruling, accept, refuse, then}
 use Rattle.paper.specs.Checks.{every, row_fits}
 use Rattle.rows.proofs.Rest.{both}

@@ -11,7 +11,7 @@ use lib.IntN.{ℤ}
 use Rattle.laws.proofs.RowNumbers.{accepting_signed}
 use Rattle.paper.specs.Rows.{Table, table, rows_in, numbers, accepting, signed}
 use Rattle.paper.specs.Answers.{Ruling, accept, refuse, then, Reads, number, detail}
-use Rattle.paper.specs.Checks.{first, every, row_fits, rising, production_fits, little_room, plain, range, order}
+use Rattle.paper.specs.Checks.{first, every, row_fits, production_fits, little_room, plain, range, order}
 use Rattle.paper.specs.Text.{lines, read_lines, text_in}
 use Rattle.paper.specs.declared.Refusal.{Refusal}
 use Rattle.paper.specs.declared.Reading.TheVariants.{Read, Refused}

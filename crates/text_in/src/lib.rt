@@ -1,4 +1,6 @@
 // Document 01, module 7: text in.
+#![tactic(auto)]
+
 use crate::passes::Pass;
 use paper::{Reading, Refusal};
 use rows::numbers;

@@ -10,7 +10,7 @@ use text_lines::reading::RowLine;
 
 // What is known of the rows so far: how many, whether all are within bounds, whether their keys
 // rise, and the least key that rises.
-#[derive(Drop)]
+#[derive(Clone, Copy)]
 pub struct Tally {
     pub rows: usize,
     pub fits: bool,
@@ -19,7 +19,7 @@ pub struct Tally {
 }
 
 // Of all rows, or the offset of the first bad line.
-#[derive(Drop)]
+#[derive(Clone, Copy)]
 pub enum Pass {
     Rows(Tally),
     Bad(usize),

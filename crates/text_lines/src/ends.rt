@@ -3,7 +3,7 @@ ghost use Rattle.std.specs.Prelude.{◌≡◌};
 ghost use Rattle.text_lines.specs.Reading.{line_from};
 
 // The place of a line's LF, or a last line that has none.
-#[derive(Drop)]
+#[derive(Clone, Copy)]
 pub enum Line {
     Ended(usize),
     Open,

@@ -1,4 +1,6 @@
 // Text in: the lines of a text.
+#![tactic(auto)]
+
 mod ends;
 mod reader;
 pub mod reading;

@@ -5,7 +5,7 @@ ghost use Rattle.text_lines.specs.Reading.{line_from};
 use crate::ends;
 use crate::ends::Line;
 
-#[derive(Drop)]
+#[derive(Clone, Copy)]
 pub struct Reader<'a> {
     pub text: &'a [u8],
     pub at: usize,

@@ -7,14 +7,14 @@ use crate::reader;
 use text_pieces::Number;
 
 // A row's from, terminal, to and its production's code, and the place of the line after it.
-#[derive(Drop)]
+#[derive(Clone, Copy)]
 pub enum RowLine {
     Row(usize, usize, usize, usize, usize),
     Bad,
 }
 
 // The code of prod0 and k, and the place of the line after it.
-#[derive(Drop)]
+#[derive(Clone, Copy)]
 pub enum HeadLine {
     Head(usize, usize, usize),
     Bad,

@@ -1,4 +1,6 @@
 // Document 01, module 7: text out.
+#![tactic(auto)]
+
 use paper::{Refusal, Writing};
 use row_checks::Verdict;
 use rows::numbers;

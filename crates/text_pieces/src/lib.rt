@@ -1,9 +1,11 @@
 // Text in: words and numbers, each at a place of a line.
+#![tactic(auto)]
+
 ghost use Rattle.std.specs.Prelude.{◌≡◌, ◌+◌, ◌<◌, ◌≤◌, length, drop};
 ghost use Rattle.text_pieces.specs.Pieces.{starts, Counts, number_at, production_at, field_at, last_at, ends_at};
 
 // A number and the place after it, or no number in form.
-#[derive(Drop)]
+#[derive(Clone, Copy)]
 pub enum Number {
     Is(usize, usize),
     Bad,
@@ -28,7 +30,7 @@ fn word_at(line: &[u8], at: usize, word: &[u8]) -> bool
 }
 
 // The digits at a place: how many they are and their number; six or more are not told apart.
-#[derive(Drop)]
+#[derive(Clone, Copy)]
 struct Counted {
     count: usize,
     value: usize,
