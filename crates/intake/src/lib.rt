@@ -1,4 +1,6 @@
 // The intake desk's one call: from string lists to a shrunk table.
+#![tactic(auto)]
+
 use paper::{Making, Refusal};
 
 mod checks;

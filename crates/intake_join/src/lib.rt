@@ -1,4 +1,6 @@
 // One more list: it is built, and united to what there is, in lent arrays.
+#![tactic(auto)]
+
 ghost use Rattle.paper.specs.Answers.{then};
 ghost use Rattle.intake_lists.specs.Call.{join_lent};
 ghost use Rattle.intake_lists.specs.Held.{held, Holds, Ready};

@@ -1,4 +1,6 @@
 // The lists, one after the other: each is built and united to what there is, in lent arrays.
+#![tactic(auto)]
+
 ghost use Rattle.std.specs.Prelude.{◌≡◌, ◌<◌, ◌≤◌, length};
 ghost use Rattle.paper.specs.Answers.{then};
 ghost use Rattle.paper.specs.Build.{sum};

@@ -1,7 +1,7 @@
 -- Demand 3 for the call: its contract says that the answer and the output are what `table_of` rules, and of lists
 -- within document 01's bounds with at most 1,024 distinct beginnings that ruling is what demand 3 asks.
 -- Assumes nothing.
-use mathlib.Core.Path.{◌≡◌, refl}
+use mathlib.Core.Path.{refl}
 use mathlib.Core.List.{List, [], ◌∷◌}
 use Prim.Native.Nat.{ℕ, ◌*◌, ◌≤◌}
 use lib.ListN.{length, take}

@@ -1,4 +1,6 @@
 // A list built, a table united to it, the last one shrunk: each by its public call, in lent arrays.
+#![tactic(auto)]
+
 ghost use Rattle.std.specs.Prelude.{◌≡◌, ◌*◌, ◌≤◌, length, take};
 ghost use Rattle.paper.specs.declared.Mode.TheVariants.{Intake};
 ghost use Rattle.paper.specs.Answers.{then, Makes};
