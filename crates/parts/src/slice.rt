@@ -34,7 +34,7 @@ fn behind(place: usize, head: usize, count: usize) -> usize {
 }
 
 // The head of a table, how many numbers its rows have, and the place behind them.
-#[derive(Drop)]
+#[derive(Clone, Copy)]
 pub struct Head {
     pub prod0: i32,
     pub k: usize,

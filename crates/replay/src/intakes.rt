@@ -70,14 +70,9 @@ fn judged(rest: &[usize], making: Making, out: &[i32]) -> Outcome {
 
 // Six numbers a window: three tokens, and what is predicted.
 fn are_told(windows: &[usize], prod0: i32, k: usize, rows: &[i32]) -> bool {
-    let mut left = windows.len() / 6;
-    while 0 < left {
-        left -= 1;
-        if !is_told(slice::after(windows, left % 1000000 * 6), prod0, k, rows) {
-            return false;
-        }
-    }
-    true
+    windows
+        .chunks_exact(6)
+        .all(|window| is_told(window, prod0, k, rows))
 }
 
 fn is_told(window: &[usize], prod0: i32, k: usize, rows: &[i32]) -> bool {

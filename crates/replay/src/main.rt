@@ -1,5 +1,7 @@
 // Replays the fixed list: each case is asked of the proved call, and its answer and the output are compared with the
 // list's. A name behind some cases says what they show.
+#![tactic(auto)]
+
 mod builds;
 mod explains;
 mod intakes;
@@ -10,70 +12,79 @@ mod unites;
 
 use cases::tally;
 use cases::tally::Outcome;
-use libc::STDOUT_FILENO;
 use parts::{number, slice};
+use std::io;
+use std::io::Read;
 
 // The counts: 17 for each call, then how many cases the list had so far, and how many of the last were right.
 const CASES: usize = 119;
 
 const RIGHT: usize = 120;
 
-fn main() {
+fn main(rt: HostRuntime) -> io::Result<()> {
     let mut counts = [0usize; 121];
-    replay(&mut counts);
-    report(&counts);
+    replay(&rt, &mut rt.stdin(), &mut counts)?;
+    report(&rt, &counts)
 }
 
 // The counts of each call.
-fn report(counts: &[usize]) {
-    of_call(b"build\n", counts, 0);
-    of_call(b"unite\n", counts, 17);
-    of_call(b"shrink\n", counts, 34);
-    of_call(b"predict\n", counts, 51);
-    of_call(b"explain\n", counts, 68);
-    of_call(b"intake\n", counts, 85);
-    of_call(b"text\n", counts, 102);
+fn report(rt: &impl Print, counts: &[usize]) -> io::Result<()> {
+    of_call(rt, "build", counts, 0)?;
+    of_call(rt, "unite", counts, 17)?;
+    of_call(rt, "shrink", counts, 34)?;
+    of_call(rt, "predict", counts, 51)?;
+    of_call(rt, "explain", counts, 68)?;
+    of_call(rt, "intake", counts, 85)?;
+    of_call(rt, "text", counts, 102)
 }
 
-fn of_call(name: &[u8], counts: &[usize], start: usize) {
-    io::write_all(STDOUT_FILENO, name);
-    tally::report(slice::after(counts, start));
+fn of_call(rt: &impl Print, name: &str, counts: &[usize], start: usize) -> io::Result<()> {
+    println!(rt; "{name}")?;
+    tally::report(rt, slice::after(counts, start))
 }
 
 // More turns than the list has cases and names.
-fn replay(counts: &mut [usize]) {
+fn replay(rt: &impl Print, input: &mut impl Read, counts: &mut [usize]) -> io::Result<()> {
     let mut bytes = [0u8; 131072];
     let mut numbers = [0usize; 131072];
-    let mut turns: usize = 1000000;
-    while turns > 0 && one(&mut bytes, &mut numbers, counts) {
-        turns -= 1;
+    for _ in 0..1000000 {
+        if !one(rt, input, &mut bytes, &mut numbers, counts)? {
+            break;
+        }
     }
+    Ok(())
 }
 
 // Whether there was a case or a name.
-fn one(bytes: &mut [u8], numbers: &mut [usize], counts: &mut [usize]) -> bool {
-    let n = tally::next(bytes);
+fn one(
+    rt: &impl Print,
+    input: &mut impl Read,
+    bytes: &mut [u8],
+    numbers: &mut [usize],
+    counts: &mut [usize],
+) -> io::Result<bool> {
+    let n = tally::next(input, bytes)?;
     if n == 0 {
-        return false;
+        return Ok(false);
     }
     let bytes = slice::front_bytes(bytes, n);
     let first = number::read(bytes, numbers);
-    told(bytes, slice::after(numbers, first), counts);
-    true
+    told(rt, bytes, slice::after(numbers, first), counts)?;
+    Ok(true)
 }
 
 // A name, or a case, which stands behind its call and its source.
-fn told(bytes: &[u8], whole: &[usize], counts: &mut [usize]) {
+fn told(rt: &impl Print, bytes: &[u8], whole: &[usize], counts: &mut [usize]) -> io::Result<()> {
     let call = slice::at(whole, 0);
     if 6 < call {
-        named(bytes, slice::at(whole, 1), slice::at(counts, RIGHT));
-        return;
+        return named(rt, bytes, slice::at(whole, 1), slice::at(counts, RIGHT));
     }
     count(
+        rt,
         counts,
         call * 17,
         asked(call, slice::after(whole, 2), bytes),
-    );
+    )
 }
 
 fn asked(call: usize, case: &[usize], bytes: &[u8]) -> Outcome {
@@ -99,15 +110,17 @@ fn asked(call: usize, case: &[usize], bytes: &[u8]) -> Outcome {
 }
 
 // Counts a case of the call whose counts start there.
-fn count(counts: &mut [usize], start: usize, outcome: Outcome) {
+fn count(rt: &impl Print, counts: &mut [usize], start: usize, outcome: Outcome) -> io::Result<()> {
     tally::name(
+        rt,
         slice::at(counts, CASES),
         slice::after(counts, start),
         outcome.right,
-    );
+    )?;
     tally::add(counts, start, outcome);
     tally::more(counts, CASES, 0);
     run(counts, outcome.right);
+    Ok(())
 }
 
 // One more that was right, or none.
@@ -122,14 +135,10 @@ fn run(counts: &mut [usize], right: bool) {
 }
 
 // A name that stands behind n cases, and whether they were right.
-fn named(bytes: &[u8], n: usize, right: usize) {
-    if n <= right {
-        io::write_all(STDOUT_FILENO, b"ok ");
-    } else {
-        io::write_all(STDOUT_FILENO, b"WRONG ");
-    }
+fn named(rt: &impl Print, bytes: &[u8], n: usize, right: usize) -> io::Result<()> {
+    rt.print(if n <= right { "ok " } else { "WRONG " })?;
     if 2 <= bytes.len() {
-        io::write_all(STDOUT_FILENO, &bytes[2..]);
+        rt.write_all(&bytes[2..])?;
     }
-    io::write_all(STDOUT_FILENO, b"\n");
+    println!(rt)
 }

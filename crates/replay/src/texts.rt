@@ -40,19 +40,17 @@ fn judged(expected: &[usize], reading: Reading, text: &[u8], out: &[i32]) -> Out
 fn is_written(prod0: i32, k: usize, rows: &[i32], text: &[u8]) -> bool {
     let mut bytes = room();
     let n = written(text_out::text_out(prod0, k, rows, &mut bytes));
-    if !check::same(text, slice::front_bytes(&bytes, n)) {
+    if text != slice::front_bytes(&bytes, n) {
         return false;
     }
     is_blank(&bytes, n)
 }
 
 fn is_blank(bytes: &[u8], from: usize) -> bool {
-    let mut i = from;
-    while i < bytes.len() {
+    for i in from..bytes.len() {
         if bytes[i] != 0 {
             return false;
         }
-        i += 1;
     }
     true
 }

@@ -1,4 +1,6 @@
 // Document 01's program `tabrep`: what it prints for a text.
+#![tactic(auto)]
+
 ghost use Rattle.std.specs.Prelude.{◌≡◌, ◌≤◌, length};
 ghost use Rattle.paper.specs.Rows.{table};
 ghost use Rattle.paper.specs.Tabrep.{tabrep, printed};

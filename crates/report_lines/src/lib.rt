@@ -1,4 +1,6 @@
 // The lines that `tabrep` prints.
+#![tactic(auto)]
+
 ghost use Rattle.std.specs.Prelude.{◌+◌, ◌≤◌, length};
 ghost use Rattle.paper.specs.Answers.{number, detail, refuse};
 ghost use Rattle.paper.specs.Tabrep.{printed};
@@ -9,7 +11,7 @@ use paper::Refusal;
 use text_out::writing;
 
 // How many states and rows a table has.
-#[derive(Drop)]
+#[derive(Clone, Copy)]
 pub struct Sizes {
     pub states: usize,
     pub rows: usize,

@@ -1,24 +1,27 @@
 // `tabrep`'s answers for the texts of standard input: tables, texts out of form, tables that are refused.
+#![tactic(auto)]
+
 mod list;
 mod say;
 
-use libc::STDIN_FILENO;
+use std::io;
+use std::io::Read;
 
-fn main() {
+fn main(rt: HostRuntime) -> io::Result<()> {
     let mut bytes = [0u8; 8192];
-    let n = io::read_full(STDIN_FILENO, &mut bytes);
-    list::all(&bytes[..n]);
-    most();
-    too_many();
+    let n = io::copy(&mut rt.stdin().take(8192), &mut &mut bytes[..])?.min(8192);
+    list::all(&rt, &bytes[..n as usize])?;
+    most(&rt)?;
+    too_many(&rt)
 }
 
 // 65,536 bytes are read as a text, and are bad here.
-fn most() {
+fn most(rt: &impl Print) -> io::Result<()> {
     let bytes = [10u8; 65536];
-    say::answer(b"65,536 bytes", &bytes);
+    say::answer(rt, b"65,536 bytes", &bytes)
 }
 
-fn too_many() {
+fn too_many(rt: &impl Print) -> io::Result<()> {
     let bytes = [10u8; 65537];
-    say::report(b"65,537 bytes", &bytes);
+    say::report(rt, b"65,537 bytes", &bytes)
 }

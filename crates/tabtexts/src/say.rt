@@ -1,43 +1,41 @@
 // The lines that are printed for a text.
-use libc::STDOUT_FILENO;
 use paper::{Reading, Refusal};
+use std::io;
 
 // The name of a text, what `tabrep` prints for it, and where text in finds a line out of form.
-pub fn answer(name: &[u8], text: &[u8]) {
-    report(name, text);
+pub fn answer(rt: &impl Print, name: &[u8], text: &[u8]) -> io::Result<()> {
+    report(rt, name, text)?;
     let mut rows = [0i32; 16384];
-    bad(name, text_in::text_in(text, &mut rows));
+    bad(rt, name, text_in::text_in(text, &mut rows))
 }
 
-pub fn report(name: &[u8], text: &[u8]) {
-    io::write_all(STDOUT_FILENO, name);
-    io::write_all(STDOUT_FILENO, b": ");
+pub fn report(rt: &impl Print, name: &[u8], text: &[u8]) -> io::Result<()> {
+    rt.write_all(name)?;
+    rt.print(": ")?;
     let mut out = [0u8; 64];
     let count = report::report(text, &mut out);
-    io::write_all(STDOUT_FILENO, &out[..count]);
+    rt.write_all(&out[..count])
 }
 
-fn bad(name: &[u8], reading: Reading) {
+fn bad(rt: &impl Print, name: &[u8], reading: Reading) -> io::Result<()> {
     match reading {
         Reading::Read {
             prod0: _,
             k: _,
             rows: _,
-        } => {}
-        Reading::Refused(refusal) => offset(name, refusal),
+        } => Ok(()),
+        Reading::Refused(refusal) => offset(rt, name, refusal),
     }
 }
 
-fn offset(name: &[u8], refusal: Refusal) {
+fn offset(rt: &impl Print, name: &[u8], refusal: Refusal) -> io::Result<()> {
     match refusal {
-        Refusal::Text(at) => line(name, at),
-        _ => {}
+        Refusal::Text(at) => line(rt, name, at),
+        _ => Ok(()),
     }
 }
 
-fn line(name: &[u8], at: usize) {
-    io::write_all(STDOUT_FILENO, name);
-    io::write_all(STDOUT_FILENO, b", bad line at: ");
-    io::print_decimal(STDOUT_FILENO, at as u64);
-    io::write_all(STDOUT_FILENO, b"\n");
+fn line(rt: &impl Print, name: &[u8], at: usize) -> io::Result<()> {
+    rt.write_all(name)?;
+    println!(rt; ", bad line at: {at}")
 }
