@@ -1,4 +1,4 @@
-/* Lookahead tables: the proved calls, in the library that `rt staticlib exports` writes.
+/* Lookahead tables: the proved calls, in the library that `c/library` writes.
  *
  * A table is prod0, k and rows of four numbers (from, terminal, to, production of to), production -1 for none.
  * A slice is a pointer and a count of elements; the pointer is not NULL, even if the count is 0. Outputs and answers

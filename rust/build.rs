@@ -1,4 +1,4 @@
-//! Links the proved calls, which `rt staticlib exports` writes.
+//! Links the proved calls, which `c/library` writes.
 fn main() {
     let top = std::path::Path::new(env!("CARGO_MANIFEST_DIR"))
         .parent()
@@ -8,7 +8,7 @@ fn main() {
     println!("cargo:rerun-if-changed={}", library.display());
     assert!(
         library.exists(),
-        "{} is missing: run `rt staticlib exports` at the top of the repository",
+        "{} is missing: run `c/library` at the top of the repository",
         library.display()
     );
     println!("cargo:rustc-link-search=native={}", folder.display());

@@ -1,6 +1,6 @@
 //! Lookahead tables: built from string lists, united, shrunk, asked for predictions and explanations, written as text.
 //!
-//! The work is done by the proved calls of the static library that `rt staticlib exports` writes; this crate gives them
+//! The work is done by the proved calls of the static library that `c/library` writes; this crate gives them
 //! Rust's own manner. Refusals are those of document 01, and stand at each call in the order in which they are tried.
 //!
 //! - [`Table`] holds its rows;

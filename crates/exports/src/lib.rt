@@ -1,4 +1,6 @@
 // The calls for Rust and C: numbers and slices in, the refusal's number out (0: accepted), values in `answer`.
+#![tactic(auto)]
+
 ghost use Rattle.std.specs.Prelude.{◌≡◌, length};
 ghost use Rattle.paper.specs.Build.{build};
 ghost use Rattle.paper.specs.Unite.{unite};

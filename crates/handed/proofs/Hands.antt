@@ -9,12 +9,10 @@ use lib.IntN.{ℤ}
 use lib.Signed.{mag}
 use mir.Syntax.{w32}
 use mir.Val.{to_z, of_z}
-use denote.Enum.Declared.{tag_of}
-use types.Run.{OneOf, miss}
 use Rattle.laws.proofs.RowNumbers.{accepting_signed}
 use Rattle.paper.specs.declared.Refusal.{Refusal}
 use Rattle.paper.specs.declared.Refusal.TheVariants as refusal
-use Rattle.paper.specs.contracts.Refusal.{the_type}
+use Rattle.paper.specs.declared.Production.{Production}
 use Rattle.paper.specs.declared.Making.{Making}
 use Rattle.paper.specs.declared.Reading.{Reading}
 use Rattle.paper.specs.declared.Writing.{Writing}
@@ -49,26 +47,23 @@ first_is l a b vs e d = e ∙ ap (λ (x : ℕ). x ∷ vs) d
 pub second_is : (l : List ℕ) (x a b : ℕ) (vs : List ℕ) → l ≡ x ∷ a ∷ vs → a ≡ b → l ≡ x ∷ b ∷ vs
 second_is l x a b vs e d = e ∙ ap (λ (y : ℕ). x ∷ y ∷ vs) d
 
--- all refusals but 8 and 13
-abbrev bare : List ℕ
-bare = 0 ∷ 1 ∷ 2 ∷ 3 ∷ 4 ∷ 5 ∷ 6 ∷ 8 ∷ 9 ∷ 10 ∷ 11 ∷ 13 ∷ []
-
--- have no detail
-pub no_detail : (f : Refusal) → OneOf bare (tag_of the_type f) → 0 ∷ 0 ∷ 0 ∷ 0 ∷ [] ≡ four (detail f)
-no_detail refusal.Length k = refl
-no_detail refusal.Range k = refl
-no_detail refusal.Order k = refl
-no_detail refusal.Shape k = refl
-no_detail refusal.Loose k = refl
-no_detail refusal.Split k = refl
-no_detail refusal.Tree k = refl
-no_detail (refusal.Clash p q) k = absurd (miss bare 7 tt k)
-no_detail refusal.Mismatch k = refl
-no_detail refusal.Short k = refl
-no_detail refusal.None k = refl
-no_detail refusal.Root k = refl
-no_detail (refusal.Text at) k = absurd (miss bare 12 tt k)
-no_detail refusal.Full k = refl
+-- all refusals but 8 and 13 have no detail
+pub no_detail : (f : Refusal) → ((p q : Production) → f ≡ refusal.Clash p q → ⊥) →
+    ((at : ℕ) → f ≡ refusal.Text at → ⊥) → 0 ∷ 0 ∷ 0 ∷ 0 ∷ [] ≡ four (detail f)
+no_detail refusal.Length k h = refl
+no_detail refusal.Range k h = refl
+no_detail refusal.Order k h = refl
+no_detail refusal.Shape k h = refl
+no_detail refusal.Loose k h = refl
+no_detail refusal.Split k h = refl
+no_detail refusal.Tree k h = refl
+no_detail (refusal.Clash p q) k h = absurd (k p q refl)
+no_detail refusal.Mismatch k h = refl
+no_detail refusal.Short k h = refl
+no_detail refusal.None k h = refl
+no_detail refusal.Root k h = refl
+no_detail (refusal.Text at) k h = absurd (h at refl)
+no_detail refusal.Full k h = refl
 
 -- values by way of what an answer holds
 hand_over : {A B : Type 0} (g : Ruling A) (x : Ruling B) (h : A → B) (f : A → List ℕ) (e : B → List ℕ) (r : ℕ)

@@ -1,4 +1,6 @@
 // An answer handed over: the refusal's number, 0 for none, and four values; those that are not used are 0.
+#![tactic(auto)]
+
 ghost use Rattle.std.specs.Prelude.{◌≡◌, [], ◌∷◌};
 ghost use Rattle.paper.specs.Rows.{accepting};
 ghost use Rattle.paper.specs.Answers.{number, detail, made, predicted, explained, heard, wrote};
@@ -26,7 +28,7 @@ pub fn put(answer: &mut [u64; 4], a: u64, b: u64, c: u64, d: u64)
 }
 
 // A refusal's detail: 8 has two numbers, 13 has one; 0 where there is none.
-#[derive(Drop)]
+#[derive(Clone, Copy)]
 struct Detail {
     first: u64,
     second: u64,
