@@ -2,7 +2,8 @@
 use mathlib.Core.Path.{◌≡◌, refl}
 use mathlib.Core.Option.{Option, none, some}
 use Prim.Native.Nat.{ℕ, zero, suc}
-use Rattle.paper.specs.Rows.{Row}
+use lib.IntN.{ℤ}
+use Rattle.paper.specs.Rows.{Row, accepting}
 use Rattle.rows.specs.Places.{code, uncoded, row}
 
 pub uncoded_code : (q : Option ℕ) → uncoded (code q) ≡ q
@@ -14,6 +15,6 @@ code_uncoded zero = refl
 code_uncoded (suc q) = refl
 
 -- the row whose numbers were read
-pub row_as : (r : Row) (f t g c : ℕ) → f ≡ r.from → t ≡ r.terminal → g ≡ r.to → c ≡ code r.production
-    → row f t g c ≡ r
-row_as r f t g c e₁ e₂ e₃ e₄ = rw (e₁, e₂, e₃, e₄, uncoded_code r.production)
+pub row_as : (r : Row) (f t g : ℕ) (p : ℤ) → f ≡ r.from → t ≡ r.terminal → g ≡ r.to → accepting p ≡ r.production
+    → row f t g p ≡ r
+row_as r f t g p e₁ e₂ e₃ e₄ = rw (e₁, e₂, e₃, e₄)
