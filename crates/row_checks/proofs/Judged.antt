@@ -4,17 +4,19 @@ use Rattle.std.specs.Prelude.{Result, Ok, Err}
 use mathlib.Core.Path.{◌≡◌, refl, sym, ap, ◌∙◌}
 use mathlib.Core.Bool.{Bool, true, false, cond, not, ◌&&◌}
 use mathlib.Core.List.{List, [], ◌∷◌}
-use Prim.Native.Nat.{ℕ, ◌≤◌}
+use Prim.Native.Nat.{ℕ, ◌%◌, ◌≤◌}
 use native.Mathlib.Omega.{arith}
-use borrow.Author.Tests.{leb-true}
-use lib.Dec.{leb}
+use borrow.Author.Tests.{leb-true, eqb-true, ltb-false, not-false}
+use lib.Dec.{leb, eqb, ltb}
+use lib.ListN.{length}
+use Rattle.laws.proofs.Every.{neither}
 use lib.IntN.{ℤ}
 use Rattle.paper.specs.Rows.{Table, rows_in, table}
 use Rattle.paper.specs.declared.Refusal.{Refusal}
 use Rattle.paper.specs.Answers.{Ruling, accept, refuse, then, stated, number, detail}
-use Rattle.paper.specs.Checks.{first, every, row_fits, rising, production_fits, range, order, plain}
+use Rattle.paper.specs.Checks.{first, every, row_fits, row_slice, rising, production_fits, range, order, plain}
 use Rattle.rows.specs.Passed.{Passed}
-use Rattle.row_checks.specs.Verdicts.{follow, of_rows, Judges, Passes}
+use Rattle.row_checks.specs.Verdicts.{follow, of_rows, Judges, Passes, Whole}
 use Rattle.rows.specs.Places.{code}
 use Rattle.rows.proofs.Rest.{both}
 use Rattle.rows.proofs.Fits.{code_fits}
@@ -50,8 +52,8 @@ done = record { all = refl }
 pub taken : {A : Type 0} {cs : List (Bool × ℕ)} (a : A) → Passes cs → Judges cs (Ok a)
 taken a p = record { says = p.all }
 
-pub passes : {A : Type 0} {cs : List (Bool × ℕ)} {v : Result A Refusal} (a : A) → v ≡ Ok a → Judges cs v → Passes cs
-passes a e j = record { all = rw e at j.says }
+pub passes : {A : Type 0} {cs : List (Bool × ℕ)} {a : A} → Judges cs (Ok a) → Passes cs
+passes j = record { all = j.says }
 
 -- what a verdict gives where the checks pass is of no account
 pub same_verdict : {A B : Type 0} {cs : List (Bool × ℕ)} (f : Refusal) → Judges {A = A} cs (Err f)
@@ -126,3 +128,11 @@ bounded t e =
 
 pub plain_bounded : (t : Table) → Passes (plain t) → Bounded t
 plain_bounded t j = bounded t (passes_first j).0
+
+-- a row slice that passed 1
+pub measured : (ns : List ℤ) → row_slice ns ≡ false → Whole ns
+unfolding row_slice
+measured ns e =
+    let h = neither (not (eqb (length ns % 4) 0)) (ltb 16384 (length ns)) e in
+    let z : length ns % 4 ≡ 0 = eqb-true (length ns % 4) 0 (not-false (eqb (length ns % 4) 0) h.0) in
+    record { few = ltb-false 16384 (length ns) h.1; fours = omega arith }

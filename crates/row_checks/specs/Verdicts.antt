@@ -1,5 +1,5 @@
 -- What the checks of a call say, as a ruling.
-use Rattle.std.specs.Prelude.{◌≡◌, Bool, not, List, [], ◌∷◌, ℕ, ℤ, Result, Ok, Err}
+use Rattle.std.specs.Prelude.{◌≡◌, Bool, not, List, [], ◌∷◌, ℕ, ℤ, Result, Ok, Err, ◌*◌, ◌/◌, ◌≤◌, length}
 use Rattle.paper.specs.declared.Refusal.{Refusal}
 use Rattle.paper.specs.Rows.{rows_in, table}
 use Rattle.paper.specs.Answers.{Ruling, accept, refuse, then, stated, number, detail}
@@ -19,6 +19,10 @@ follow (Err f) r = refuse (number f) (detail f)
 abbrev pub of_rows : List ℤ → List (Bool × ℕ)
 of_rows ns = (not (every row_fits (rows_in ns)), 2) ∷ (order (bare ns), 3) ∷ []
 
+-- The check 1 of a row slice.
+abbrev pub sized : List ℤ → List (Bool × ℕ)
+sized ns = (row_slice ns, 1) ∷ []
+
 -- The checks 1 to 3 of a table as it is lent.
 abbrev pub whole : ℤ → ℕ → List ℤ → List (Bool × ℕ)
 whole p k ns = (row_slice ns, 1) ∷ plain (table p k ns)
@@ -30,3 +34,8 @@ pub record Passes (checks : List (Bool × ℕ)) : Type 0 where
 -- A table that passed 2 and 3.
 pub record Sound (p : ℤ) (k : ℕ) (ns : List ℤ) : Type 0 where
   pub checked : Passes (plain (table p k ns))
+
+-- A row slice that passed 1.
+pub record Whole (ns : List ℤ) : Type 0 where
+  pub few : length ns ≤ 16384
+  pub fours : length ns / 4 * 4 ≡ length ns

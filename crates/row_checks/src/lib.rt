@@ -5,10 +5,17 @@ ghost use Rattle.std.specs.Prelude.{◌≡◌, ◌&&◌, ◌+◌, ◌*◌, ◌<�
 ghost use Rattle.paper.specs.Rows.{accepting, table};
 ghost use Rattle.paper.specs.Checks.{row_slice, row_fits, production_fits, shape, plain};
 ghost use Rattle.rows.specs.Places.{row, row_at, bare, given};
-ghost use Rattle.row_checks.specs.Verdicts.{of_rows, whole, Judges, Sound};
+ghost use Rattle.row_checks.specs.Verdicts.{of_rows, sized, whole, Judges, Sound, Whole};
 
 use paper::{Production, Refusal, Table};
 use rows::{Rows, numbers};
+
+// A table whose row slice passed the check 1.
+#[derive(Clone, Copy)]
+pub struct Measured<'a> {
+    pub table: Table<'a>,
+    ghost whole: { Whole table.rows.now },
+}
 
 // A table that passed the checks 2 and 3.
 #[derive(Clone, Copy)]
@@ -133,6 +140,17 @@ pub fn plain<'a>(lent: Table<'a>) -> Result<Checked<'a>, Refusal>
     }
     in_one_pass(lent.rows)?;
     Ok(Checked { table: lent })
+}
+
+// The check 1 of a table's rows.
+pub fn sized<'a>(lent: Table<'a>) -> Result<Measured<'a>, Refusal>
+    ensures judges { Judges (sized lent.entry.rows.now) result }
+    ensures same { IfOk result (λ t. t.table ≡ lent.entry) }
+{
+    if row_slice(lent.rows) {
+        return Err(Refusal::Length);
+    }
+    Ok(Measured { table: lent })
 }
 
 // The checks 1 to 3, the first of every call that only reads a table.

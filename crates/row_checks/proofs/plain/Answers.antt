@@ -1,6 +1,5 @@
 -- prod0 and k, then the rows.
 use mathlib.Core.Path.{refl, sym, ◌∙◌}
-use Rattle.std.specs.Prelude.{Ok}
 use Rattle.std.proofs.lemmas.Result.{err_from_is_err_and}
 use Rattle.paper.specs.declared.Refusal.TheVariants.{Range}
 use Rattle.paper.specs.Rows.{table}
@@ -30,7 +29,7 @@ invariant_of-result c =
     let t = c.args.lent in
     record {
       sound = record {
-        checked = passes tt (λ i. Ok tt) (of_table t.prod0 t.k t.rows.now
+        checked = passes (of_table t.prod0 t.k t.rows.now
             (rows_left (table t.prod0 t.k t.rows.now)
             (rw (same t.prod0 (search rules)) at (sym c.head_fits.ensures ∙ c.if-not-head_fits.false))) c.in_ok-in_one_pass.ensures);
       };
