@@ -11,7 +11,7 @@ use paper::{Production, State, Terminal};
 use rows::Rows;
 
 // The walk: its state, the count of rows entered, and the production of the last accepting row entered.
-#[derive(Clone, Copy, Debug, PartialEq, Eq)]
+#[derive(Clone, Copy)]
 pub struct Walk {
     pub state: State,
     pub entered: usize,
