@@ -5,7 +5,9 @@ use Prim.Native.Nat.{ℕ, ◌+◌, ◌-◌, ◌<◌, ◌≤◌}
 use native.Mathlib.Omega.{arith}
 use lib.ListN.{length, get_or, take, drop, length-drop, drop_of_length-le}
 use lib.IntN.{ℤ, pos}
-use Rattle.paper.specs.declared.Making.{Making}
+use Rattle.std.specs.Prelude.{Result, Ok, Err}
+use Rattle.paper.specs.declared.Heading.{Heading}
+use Rattle.paper.specs.declared.Refusal.{Refusal}
 use Rattle.paper.specs.Answers.{Ruling, accept, refuse, then, Made}
 use Rattle.paper.specs.Build.{sum, build}
 use Rattle.intake_lists.specs.Call.{Lent, lists_in, build_lent, join_lent, join_all, unite_all}
@@ -14,7 +16,7 @@ use Rattle.intake_lists.proofs.Lists.{lent, next_list, next_summed, join_then, l
 
 -- What there is, joined with the lists that are left, is what is to be made of all lists.
 pub record Joining (ps : List ℤ) (cs ns ts : List ℕ) (whole : Ruling Made)
-    (a₀ b₀ work₀ a b work : List ℤ) (last : Making) (strings rest : List ℕ) (i : ℕ) : Type 0 where
+    (a₀ b₀ work₀ a b work : List ℤ) (last : Result Heading Refusal) (strings rest : List ℕ) (i : ℕ) : Type 0 where
   pub at : i ≤ length ps
   pub same_a : length a ≡ length a₀
   pub same_b : length b ≡ length b₀
@@ -31,9 +33,9 @@ unfolding join_all
 join_none (accept a) = refl
 join_none (refuse n d) = refl
 
-module _ {ps : List ℤ} {cs ns ts : List ℕ} {whole : Ruling Made} {a₀ b₀ work₀ a b work : List ℤ} {last : Making}
+module _ {ps : List ℤ} {cs ns ts : List ℕ} {whole : Ruling Made} {a₀ b₀ work₀ a b work : List ℤ} {last : Result Heading Refusal}
     {strings rest : List ℕ} {i : ℕ} (j : Joining ps cs ns ts whole a₀ b₀ work₀ a b work last strings rest i) where
-  pub joined_next : i < length ps → (a' b' work' : List ℤ) (last' : Making) (n : ℕ) →
+  pub joined_next : i < length ps → (a' b' work' : List ℤ) (last' : Result Heading Refusal) (n : ℕ) →
       n ≡ sum (take (get_or cs i 0) strings) →
       length a' ≡ length a → length b' ≡ length b → length work' ≡ length work →
       Holds (then (held last a) (λ m. join_lent m (record {
@@ -77,7 +79,7 @@ module _ {ps : List ℤ} {cs ns ts : List ℕ} {whole : Ruling Made} {a₀ b₀ 
       ap (λ (x : List Lent). then (held last a) (λ m. join_all m x)) (sym none) ∙ j.left in
       record { is = sym (join_none (held last a)) ∙ all; few = j.ready.few }
 
-pub joined_none : (ps : List ℤ) (cs ns ts : List ℕ) (a b work : List ℤ) (last : Making) → Ready last a b work →
+pub joined_none : (ps : List ℤ) (cs ns ts : List ℕ) (a b work : List ℤ) (last : Result Heading Refusal) → Ready last a b work →
     Summed ps cs ns ts →
     Joining ps cs ns ts (then (held last a) (λ m. join_all m (lists_in ps cs ns ts))) a b work a b work last ns ts 0
 joined_none ps cs ns ts a b work last r s = record {
@@ -100,9 +102,9 @@ module _ (ps : List ℤ) (cs ns ts : List ℕ) (h : 0 < length ps) (summed : Sum
   others_summed = rw (left_is ps 1, left_is cs 1, left_is ns (get_or cs 0 0), left_is ts n, e)
       (next_summed ps cs ns ts 0 h summed)
 
-  pub all_joined : (first : Making) (a : List ℤ) →
+  pub all_joined : (first : Result Heading Refusal) (a : List ℤ) →
       Holds (build (get_or ps 0 (pos 0)) (take n ts) (take (get_or cs 0 0) ns) 16384) first a →
-      (r : Making) (a' : List ℤ) → Holds (then (held first a) (λ m. join_all m (lists_in
+      (r : Result Heading Refusal) (a' : List ℤ) → Holds (then (held first a) (λ m. join_all m (lists_in
       (take (length ps - 1) (drop 1 ps)) (take (length cs - 1) (drop 1 cs))
       (take (length ns - get_or cs 0 0) (drop (get_or cs 0 0) ns)) (take (length ts - n) (drop n ts))))) r a' →
       Holds (unite_all (lists_in ps cs ns ts)) r a'
