@@ -126,7 +126,7 @@ module _ (buf : List ℤ) (n i s t c : ℕ) (a : Adding buf n i s t c) where
       let m : length rs ≡ n = rows_long in
       insert_at r rs i (omega (arith, place_within)) lower (λ h. higher (omega arith))
 
-  module _ (new : List ℤ) (e : Inserted buf new n i (pos s) (pos t) (pos (suc n)) (signed (uncoded c))) where
+  module _ (new : List ℤ) (e : Inserted buf new n i (pos s ∷ pos t ∷ pos (suc n) ∷ signed (uncoded c) ∷ [])) where
     now_written : take (suc n * 4) new ≡ numbers (insert r rs)
     unfolding put_in
     now_written =

@@ -92,28 +92,28 @@ seeks buf n s t (At i) l h (d, e) = (omega (arith, d, held_numbers buf n (room b
 seeks buf n s t (Missing i) l h (e, p) = record { laid = l; from = h; new = e; place = p }
 
 -- ---- a row put in there, and where the rows begin then
-module _ (buf : List ℤ) (lo n p : ℕ) (w x y z : ℤ) (h : p ≤ n) (f : n < 1023) (m : 4092 ≤ length (view buf lo)) where
+module _ (buf : List ℤ) (lo n p : ℕ) (row : List ℤ) (four : length row ≡ 4) (h : p ≤ n) (f : n < 1023) (m : 4092 ≤ length (view buf lo)) where
   within : lo * 4 + 4092 ≤ length buf
   within = reached buf lo m
 
-  pub moved_up : (ys : List ℤ) → ys ≡ inserted (part buf (lo * 4)) n p w x y z
+  pub moved_up : (ys : List ℤ) → ys ≡ inserted (part buf (lo * 4)) n p row
       → length ys ≡ length (part buf (lo * 4))
-      → Inserted (view buf lo) (view (back buf (lo * 4) ys) lo) n p w x y z
+      → Inserted (view buf lo) (view (back buf (lo * 4) ys) lo) n p row
   moved_up ys e s =
       let b : lo * 4 ≤ length buf = omega (arith, within) in
-      from_above p w x y z (view buf lo) n h (omega arith) (view (back buf (lo * 4) ys) lo)
-      (back_is buf (lo * 4) ys b ∙ e ∙ ap (λ (l : List ℤ). inserted l n p w x y z) (part_is buf (lo * 4)))
+      from_above p row four (view buf lo) n h (omega arith) (view (back buf (lo * 4) ys) lo)
+      (back_is buf (lo * 4) ys b ∙ e ∙ ap (λ (l : List ℤ). inserted l n p row) (part_is buf (lo * 4)))
       (omega (arith, ap length (back_is buf (lo * 4) ys b), s, part_long buf (lo * 4), within))
 
-  pub moved_down : 0 < lo → (ys : List ℤ) → ys ≡ put_in (drop 4 (part buf ((lo - 1) * 4))) p w x y z
-      → Inserted (view buf lo) (view (back buf ((lo - 1) * 4) ys) (lo - 1)) n p w x y z
+  pub moved_down : 0 < lo → (ys : List ℤ) → ys ≡ put_in (drop 4 (part buf ((lo - 1) * 4))) p row
+      → Inserted (view buf lo) (view (back buf ((lo - 1) * 4) ys) (lo - 1)) n p row
   moved_down d ys e =
       let a = (lo - 1) * 4 in
       let k : a + 4 ≡ lo * 4 = omega arith in
       let r : drop 4 (part buf a) ≡ view buf lo =
       ap (drop 4) (part_is buf a) ∙ drop-drop 4 a buf ∙ ap (λ (j : ℕ). drop j buf) k in
-      from_below p w x y z (view buf lo) n h (omega arith) (view (back buf a ys) (lo - 1))
-      (back_is buf a ys (omega (arith, within)) ∙ e ∙ ap (λ (l : List ℤ). put_in l p w x y z) r) m
+      from_below p row four (view buf lo) n h (omega arith) (view (back buf a ys) (lo - 1))
+      (back_is buf a ys (omega (arith, within)) ∙ e ∙ ap (λ (l : List ℤ). put_in l p row) r) m
 
 -- ---- rows that slid up, or stayed
 module _ (buf : List ℤ) (lo n : ℕ) (f : n < 1023) (m : 4092 ≤ length (view buf lo)) where
