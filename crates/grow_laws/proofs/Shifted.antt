@@ -1,16 +1,20 @@
 -- Rows moved up make room, and a row put there is put in.
 -- Assumes nothing.
 use mathlib.Core.Path.{◌≡◌, refl, ap, sym, ◌∙◌}
+use mathlib.Core.Bool.{true}
+use mathlib.Core.Option.{Option, none, some}
 use mathlib.Core.List.{List, [], ◌∷◌, ◌++◌, append_assoc}
 use Prim.Native.Nat.{ℕ, zero, suc, ◌+◌, ◌-◌, ◌*◌, ◌<◌, ◌≤◌}
 use native.Mathlib.Omega.{arith}
+use borrow.Author.Tests.{leb-true}
 use lib.ListN.{length, get_or, take, drop}
 use lib.Seq.{paste, length-take-le, take-append-le, take-take, take_at, drop_at}
 use lib.IntN.{ℤ, pos}
 use mir.Syntax.{w32}
 use mir.Val.{to_z, of_z}
 use Rattle.paper.specs.Rows.{signed}
-use Rattle.rows.specs.Places.{uncoded, four}
+use Rattle.paper.specs.Checks.{production_fits}
+use Rattle.rows.specs.Places.{four}
 use Rattle.rows.proofs.Signed.{same}
 use Rattle.rows.proofs.Four.{four_is}
 use Rattle.grow_laws.specs.Moves.{over_row, opened, inserted}
@@ -75,9 +79,9 @@ fill l n p row m h =
 pub passed_number : (r : ℤ) (n : ℕ) → r ≡ pos n → n ≤ 65535 → to_z w32 (of_z w32 r) ≡ pos n
 passed_number r n e h = ap (λ (z : ℤ). to_z w32 (of_z w32 z)) e ∙ same (pos n) (record { sfits = omega arith })
 
-pub passed_production : (r : ℤ) (c : ℕ) → r ≡ signed (uncoded c) → c ≤ 65536 → to_z w32 (of_z w32 r) ≡ signed (uncoded c)
-passed_production r c e h = ap (λ (z : ℤ). to_z w32 (of_z w32 z)) e ∙ go c h
-  where
-    go : (c : ℕ) → c ≤ 65536 → to_z w32 (of_z w32 (signed (uncoded c))) ≡ signed (uncoded c)
-    go zero h = refl
-    go (suc q) h = same (pos q) (record { sfits = omega arith })
+pub passed_production : (r : ℤ) (p : Option ℕ) → r ≡ signed p → production_fits p ≡ true → to_z w32 (of_z w32 r) ≡ signed p
+unfolding production_fits
+passed_production r none e f = ap (λ (z : ℤ). to_z w32 (of_z w32 z)) e
+passed_production r (some q) e f =
+    ap (λ (z : ℤ). to_z w32 (of_z w32 z)) e
+    ∙ same (pos q) (record { sfits = omega (arith, leb-true q 65535 f) })
