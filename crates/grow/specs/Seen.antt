@@ -9,5 +9,5 @@ abbrev pub seen : Growing → List ℤ
 seen g = view g.buf g.lo
 
 -- The rows.
-abbrev pub grown : Growing → List Row
-grown g = held (seen g) g.n
+abbrev pub rows_of : Growing → List Row
+rows_of g = held (seen g) g.n

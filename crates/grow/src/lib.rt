@@ -1,26 +1,15 @@
 // A table's rows as they grow: they stand in an array from a row on, and a new row moves the fewer of them, up or down.
 #![tactic(auto)]
 
-ghost use Rattle.std.specs.Prelude.{◌≡◌, ◌+◌, ◌*◌, ◌<◌, ◌≤◌, ◌/◌, length, take};
+ghost use Rattle.std.specs.Prelude.{◌≡◌, ◌+◌, ◌*◌, ◌<◌, ◌≤◌, ◌/◌, length, take, Ok};
 ghost use Rattle.paper.specs.Answers.{Makes};
 ghost use Rattle.paper.specs.Build.{within};
-ghost use Rattle.paper.specs.Rows.{signed, rows_in};
-ghost use Rattle.rows.specs.Passed.{Passed};
-ghost use Rattle.grow_laws.specs.Moves.{front};
-ghost use Rattle.grow_laws.specs.Held.{view, row_held, held, Laid, table_of, Seeks, Adding, Added, Giving, Given, given};
+ghost use Rattle.paper.specs.Rows.{rows_in};
+ghost use Rattle.rows.specs.Places.{given};
+ghost use Rattle.grow_laws.specs.Held.{view, row_held, Laid, table_of, Seeks, Adding, Added, Giving, Given};
 
-use paper::{Making, Production, State, Terminal};
-use rows::numbers;
-use search::Found;
-
-fn signed(p: Option<Production>) -> i32
-    ensures { result ≡ signed (given p) }
-{
-    match p {
-        Some(q) => q.0 as i32,
-        None => -1,
-    }
-}
+use paper::{Heading, Production, State, Terminal};
+use rows::{Rows, numbers};
 
 // The n rows begin at row lo of the array.
 #[derive(Drop)]
@@ -32,7 +21,7 @@ pub struct Growing {
 }
 
 impl Growing {
-    ghost use Rattle.grow.specs.Seen.{seen, grown};
+    ghost use Rattle.grow.specs.Seen.{seen, rows_of};
 
     // No rows yet; the first will stand at row 128.
     pub fn empty() -> Growing
@@ -46,13 +35,13 @@ impl Growing {
     }
 
     // The rows of a table that passed the checks, from row 128 on.
-    pub fn of(rows: &[i32]) -> Growing
-        requires { Passed rows.now × (length rows.now ≤ 4092) × (length rows.now / 4 * 4 ≡ length rows.now) }
-        ensures { grown result ≡ rows_in rows.now }
+    pub fn of(rows: Rows) -> Growing
+        requires { (length rows.numbers.now ≤ 4092) × (length rows.numbers.now / 4 * 4 ≡ length rows.numbers.now) }
+        ensures { rows_of result ≡ rows_in rows.entry.numbers.now }
     {
         let mut growing = Growing::empty();
-        growing.buf[512..512 + rows.len()].copy_from_slice(rows);
-        growing.n = rows.len() / 4;
+        growing.buf[512..512 + rows.numbers.len()].copy_from_slice(rows.numbers);
+        growing.n = rows.count();
         growing
     }
 
@@ -64,11 +53,13 @@ impl Growing {
     }
 
     // The rows themselves.
-    fn numbers(&self) -> &[i32]
-        ensures { result.now ≡ take (self.now.n * 4) (seen self.now) }
+    fn rows(&self) -> Rows
+        ensures { result.numbers.now ≡ take (self.now.n * 4) (seen self.now) }
     {
         let first = self.lo * 4;
-        &self.buf[first..first + self.n * 4]
+        Rows {
+            numbers: &self.buf[first..first + self.n * 4],
+        }
     }
 
     // The row of a state and a terminal, or where it would go.
@@ -76,10 +67,7 @@ impl Growing {
         requires { s.0 ≤ 1023 }
         ensures { Seeks (seen self.now) self.now.n s.0 t.0 result }
     {
-        match search::find(self.numbers(), s, t) {
-            Found::At(i) => Ok(i),
-            Found::Missing(i) => Err(i),
-        }
+        search::find(self.rows(), s, t)
     }
 
     // The state that row i leads to.
@@ -87,7 +75,15 @@ impl Growing {
         requires { i < self.now.n }
         ensures { (result.0 ≡ (row_held (seen self.now) self.now.n i).to) × (result.0 ≤ 1023) }
     {
-        State(numbers::to_at(self.numbers(), i) as u16)
+        State(self.rows().to(i) as u16)
+    }
+
+    // The production of that state.
+    pub fn production(&self, i: usize) -> Option<Production>
+        requires { i < self.now.n }
+        ensures { given result ≡ (row_held (seen self.now) self.now.n i).production }
+    {
+        self.rows().production(i)
     }
 
     // The row from s by t to the next state is put in at its place i.
@@ -98,7 +94,7 @@ impl Growing {
         let from = numbers::number_of(s.0 as usize);
         let terminal = numbers::number_of(t.0 as usize);
         let to = numbers::number_of(self.n + 1);
-        let row = [from, terminal, to, signed(production)];
+        let row = [from, terminal, to, numbers::signed(production)];
         self.lo = grow_ends::insert(&mut self.buf, self.lo, self.n, i, row);
         self.n += 1;
     }
@@ -108,17 +104,17 @@ impl Growing {
         requires { Giving (seen self.old) self.old.n i }
         ensures { Given (seen self.old) (seen self.new) self.old.n i (given production) × (self.new.n ≡ self.old.n) × (self.new.lo ≡ self.old.lo) }
     {
-        self.buf[(self.lo + i) * 4 + 3] = signed(production);
+        self.buf[(self.lo + i) * 4 + 3] = numbers::signed(production);
     }
 
     // The rows at the front of the output, and the answer.
-    pub fn finish(&self, prod0: Option<Production>, k: usize, out: &mut [i32]) -> Making
+    pub fn finish(&self, prod0: Option<Production>, k: usize, out: &mut [i32]) -> Heading
         requires { 16384 ≤ length out.old }
-        ensures { Makes (within (table_of (given prod0) k (seen self.now) self.now.n)) result out.old out.new }
+        ensures { Makes (within (table_of (given prod0) k (seen self.now) self.now.n)) (Ok result) out.old out.new }
     {
-        out[..self.n * 4].copy_from_slice(self.numbers());
-        Making::Made {
-            prod0: signed(prod0),
+        out[..self.n * 4].copy_from_slice(self.rows().numbers);
+        Heading {
+            prod0: numbers::signed(prod0),
             k,
             rows: self.n,
             states: self.n + 1,

@@ -9,7 +9,8 @@ use native.Mathlib.Numerals.{add-one}
 use borrow.Author.Tests.{lt-ltb, le-ltb}
 use lib.ListN.{length, take, drop}
 use lib.IntN.{ℤ}
-use Rattle.paper.specs.declared.Making.TheVariants as making
+use Rattle.std.specs.Prelude.{Ok, Err}
+use Rattle.paper.specs.declared.Heading.{Heading}
 use Rattle.paper.specs.declared.Refusal.TheVariants as refusal
 use Rattle.paper.specs.Rows.{Table, signed}
 use Rattle.paper.specs.Answers.{accept, refuse, Makes}
@@ -39,12 +40,12 @@ within_fine t n e h =
     rw (le-ltb 1024 (suc (length t.rows)) l, e)
 
 pub answers_full : (t : Table) (old : List ℤ) → 1023 < length t.rows
-    → Makes (within t) (making.Refused refusal.Full) old old
+    → Makes (within t) (Err refusal.Full) old old
 answers_full t old h = rw (within_full t h) (record { says = refl; holds = refl })
 
 module _ (buf : List ℤ) (n k : ℕ) (p : Option ℕ) (l : Laid buf n) where
   pub answers : (z : ℤ) (old new : List ℤ) → z ≡ signed p → new ≡ front (take (n * 4) buf) old
-      → Makes (within (table_of p k buf n)) (making.Made z k n (n + 1)) old new
+      → Makes (within (table_of p k buf n)) (Ok (record { prod0 = z; k = k; rows = n; states = n + 1 })) old new
   unfolding front
   answers z old new e d =
       let m : length (held buf n) ≡ n = held_length buf n (room buf n l) in
@@ -55,7 +56,7 @@ module _ (buf : List ℤ) (n k : ℕ) (p : Option ℕ) (l : Laid buf n) where
 
   -- the rows copied to the front of the output
   pub answers_at : (z : ℤ) (old xs : List ℤ) → z ≡ signed p → xs ≡ take (n * 4) buf
-      → Makes (within (table_of p k buf n)) (making.Made z k n (n + 1)) old (xs ++ drop (n * 4) old)
+      → Makes (within (table_of p k buf n)) (Ok (record { prod0 = z; k = k; rows = n; states = n + 1 })) old (xs ++ drop (n * 4) old)
   unfolding front
   answers_at z old xs e d =
       answers z old (xs ++ drop (n * 4) old) e

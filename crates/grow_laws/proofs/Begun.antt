@@ -12,7 +12,7 @@ use Rattle.rows.specs.Passed.{Passed}
 use Rattle.grow_laws.specs.Held.{view, held, Laid}
 
 module _ (ns buf ys : List ℤ) (lo : ℕ) (at : lo ≡ 128) (same : ys ≡ ns) (long : length buf ≡ 4608)
-    (few : length ns ≤ 4092) (fours : length ns / 4 * 4 ≡ length ns) where
+    (few : length ns ≤ 4092) (fours : length ns / 4 * 4 ≡ length ns) (n : ℕ) (count : n ≡ length ns / 4) where
   abbrev rest : List ℤ
   rest = drop (512 + length ns - 512) (drop 512 buf)
 
@@ -24,16 +24,16 @@ module _ (ns buf ys : List ℤ) (lo : ℕ) (at : lo ≡ 128) (same : ys ≡ ns) 
       let e : lo * 4 ≡ 512 = omega arith in
       rw e (drop_at (take 512 buf) (ys ++ rest) 512 (length-take-le 512 buf (omega arith)))
 
-  read : take (length ns / 4 * 4) (view now lo) ≡ ns
+  read : take (n * 4) (view now lo) ≡ ns
   read =
-      rw (fours, begun) (take_at ys rest (length ns) (ap length same) ∙ same)
+      rw (count, fours, begun) (take_at ys rest (length ns) (ap length same) ∙ same)
 
-  pub begun_rows : held (view now lo) (length ns / 4) ≡ rows_in ns
+  pub begun_rows : held (view now lo) n ≡ rows_in ns
   begun_rows = ap rows_in read
 
-  pub begun_laid : Passed ns → Laid (view now lo) (length ns / 4)
+  pub begun_laid : Passed ns → Laid (view now lo) n
   begun_laid p = record {
-    few = omega (arith, fours);
+    few = omega (arith, fours, count);
     room = omega (
       arith,
       ap length begun,

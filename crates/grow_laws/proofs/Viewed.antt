@@ -12,8 +12,6 @@ use lib.IntN.{ℤ, pos}
 use Rattle.paper.specs.Rows.{Row, natural, accepting}
 use Rattle.rows.specs.Places.{row_at}
 use Rattle.search.specs.Search.{Finds}
-use Rattle.search.specs.declared.Found.{Found}
-use Rattle.search.specs.declared.Found.TheVariants.{At, Missing}
 use Rattle.rows.proofs.Passing.{fit_at}
 use Rattle.grow_laws.specs.Moves.{opened, inserted, put_in, Inserted, Slid}
 use Rattle.grow_laws.specs.Held.{view, row_held, Laid, Seeks}
@@ -75,15 +73,11 @@ module _ (buf : List ℤ) (n i : ℕ) (l : Laid buf n) (h : i < n) where
       let k : to ≡ (row_held buf n i).to = e ∙ ap (λ (x : List ℤ). (row_at x i).to) d in
       (k, omega (arith, k, to_small))
 
-abbrev pub as_result : Found → Result ℕ ℕ
-as_result (At i) = Ok i
-as_result (Missing i) = Err i
-
 -- ---- what the search there answers
-pub seeks : (buf : List ℤ) (n s t : ℕ) (f : Found) → Laid buf n → s ≤ 1023 → Finds (take (n * 4) buf) s t f
-    → Seeks buf n s t (as_result f)
-seeks buf n s t (At i) l h (d, e) = (omega (arith, d, held_numbers buf n (room buf n l)), e)
-seeks buf n s t (Missing i) l h (e, p) = record { laid = l; from = h; new = e; place = p }
+pub seeks : (buf : List ℤ) (n s t : ℕ) (f : Result ℕ ℕ) → Laid buf n → s ≤ 1023 → Finds (take (n * 4) buf) s t f
+    → Seeks buf n s t f
+seeks buf n s t (Ok i) l h (d, e) = (omega (arith, d, held_numbers buf n (room buf n l)), e)
+seeks buf n s t (Err i) l h (e, p) = record { laid = l; from = h; new = e; place = p }
 
 -- ---- a row put in there, and where the rows begin then
 module _ (buf : List ℤ) (lo n p : ℕ) (row : List ℤ) (four : length row ≡ 4) (h : p ≤ n) (f : n < 1023) (m : 4092 ≤ length (view buf lo)) where

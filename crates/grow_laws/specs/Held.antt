@@ -3,9 +3,7 @@ use Rattle.std.specs.Prelude.{◌≡◌, List, map, ℕ, suc, ◌+◌, ◌*◌, 
 use Rattle.std.proofs.Math.Option.{Option, none, some}
 use Rattle.paper.specs.Rows.{Row, Table, rows_in, find}
 use Rattle.paper.specs.Build.{insert}
-use Rattle.paper.specs.declared.Production.{Production}
 use Rattle.rows.specs.Places.{row_at}
-use Rattle.std.specs.Prelude as Opt
 use Rattle.rows.specs.Passed.{Passed}
 use Rattle.search.specs.Search.{Lower}
 use Rattle.trees.proofs.Paint.{paint}
@@ -72,8 +70,3 @@ pub record Giving (buf : List ℤ) (n i : ℕ) : Type 0 where
 pub record Given (old new : List ℤ) (n i : ℕ) (p : Option ℕ) : Type 0 where
   pub laid : Laid new n
   pub rows : held new n ≡ map (paint (row_held old n i).to p) (held old n)
-
--- TO GO with the new base
-abbrev pub given : Opt.Option Production → Option ℕ
-given Opt.None = none
-given (Opt.Some q) = some q.0

@@ -4,7 +4,7 @@ use borrow.Author.Rules.{rules}
 use mir.Syntax.{w32}
 use mir.Val.{to_z, of_z}
 use Rattle.paper.specs.Checks.{production_fits}
-use Rattle.grow_laws.specs.Held.{given}
+use Rattle.rows.specs.Places.{given}
 use Rattle.grow_laws.proofs.Painted.{gives}
 use Rattle.grow.proofs.Growing.give.Goals as goal
 

@@ -3,13 +3,7 @@ use Rattle.grow.specs.Seen.{seen}
 use Rattle.grow_laws.proofs.Viewed.{to_read}
 use Rattle.grow.proofs.Growing.to.Goals as goal
 
-pub overflow_cast-result : goal.overflow_cast-result
-overflow_cast-result c =
-    let g = c.args.self.now in
-    let e = to_read (seen g) g.n c.args.i g.laid c.requires _ _ c.to_at.ensures.is c.numbers.ensures in
-    omega (arith, e.1)
-
 pub returns : goal.returns
 returns c =
     let g = c.args.self.now in
-    to_read (seen g) g.n c.args.i g.laid c.requires _ _ c.to_at.ensures.is c.numbers.ensures
+    to_read (seen g) g.n c.args.i g.laid c.requires _ _ c.to.ensures.0 c.rows.ensures
