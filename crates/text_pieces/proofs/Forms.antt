@@ -1,7 +1,7 @@
 -- Numbers and productions in form, at a place of a line. Assumes nothing.
-use Rattle.std.specs.Prelude.{Option, Some, None}
+use Rattle.std.specs.Prelude.{Option, Some, None, IfSome}
 use Prim.Native.Nat.{ℕ, ◌+◌, ◌<◌, ◌≤◌}
-use mathlib.Core.Path.{◌≡◌, refl}
+use mathlib.Core.Path.{◌≡◌, refl, sym}
 use mathlib.Core.Bool.{true, false, ◌&&◌}
 use mathlib.Core.List.{List, [], ◌∷◌}
 use native.Mathlib.Omega.{arith}
@@ -111,3 +111,12 @@ module _ (l : List ℕ) (at : ℕ) (w : List ℕ) (h : at ≤ length l) where
   last_inside p n e = by_test (starts w (drop at l))
       (λ f. production_inside l (at + length w) p n (starts_within w l at h f) (rw f at e))
       (λ f. no_pair (rw f at e))
+
+  -- the same of what was answered
+  pub field_known : (o : Option (ℕ × ℕ)) → o ≡ field_at l at w → IfSome o (λ p. (p.0 < 100000) × (p.1 ≤ length l))
+  field_known (Some (v, n)) e = let h = field_within v n (sym e) in (h.small, h.inside)
+  field_known None e = tt
+
+  pub last_known : (o : Option (ℤ × ℕ)) → o ≡ last_at l at w → IfSome o (λ p. p.1 ≤ length l)
+  last_known (Some (p, n)) e = last_inside p n (sym e)
+  last_known None e = tt

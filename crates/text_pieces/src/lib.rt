@@ -1,7 +1,7 @@
 // Text in: words and numbers, each at a place of a line.
 #![tactic(auto)]
 
-ghost use Rattle.std.specs.Prelude.{◌≡◌, ◌≤◌, length};
+ghost use Rattle.std.specs.Prelude.{◌≡◌, ◌<◌, ◌≤◌, length, IfSome};
 ghost use Rattle.text_pieces.specs.Pieces.{past_word, Counts, number_at, production_at, field_at, last_at, ends_at};
 
 // The place after a word that stands at a place.
@@ -74,7 +74,8 @@ fn production_at(line: &[u8], at: usize) -> Option<(i32, usize)>
 // The number after a word.
 pub fn field_at(line: &[u8], at: usize, word: &[u8]) -> Option<(usize, usize)>
     requires { at ≤ length line.now }
-    ensures { result ≡ field_at line.now at word.now }
+    ensures value { result ≡ field_at line.now at word.now }
+    ensures within { IfSome result (λ p. (p.0 < 100000) × (p.1 ≤ length line.now)) }
 {
     number_at(line, past_word(line, at, word)?)
 }
@@ -82,7 +83,8 @@ pub fn field_at(line: &[u8], at: usize, word: &[u8]) -> Option<(usize, usize)>
 // The production after a word.
 pub fn last_at(line: &[u8], at: usize, word: &[u8]) -> Option<(i32, usize)>
     requires { at ≤ length line.now }
-    ensures { result ≡ last_at line.now at word.now }
+    ensures value { result ≡ last_at line.now at word.now }
+    ensures within { IfSome result (λ p. p.1 ≤ length line.now) }
 {
     production_at(line, past_word(line, at, word)?)
 }
