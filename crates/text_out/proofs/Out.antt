@@ -1,7 +1,7 @@
 -- What text out answers, check by check. Assumes nothing.
 use Prim.Native.Nat.{ℕ, ◌%◌, ◌<◌, ◌≤◌}
-use mathlib.Core.Path.{◌≡◌, ap, ◌∙◌}
-use mathlib.Core.Bool.{true, false, not}
+use mathlib.Core.Path.{◌≡◌, ap, sym, ◌∙◌}
+use mathlib.Core.Bool.{false, not}
 use mathlib.Core.List.{List, [], ◌∷◌, ◌++◌, append_assoc}
 use native.Mathlib.Omega.{arith}
 use borrow.Author.Tests.{lt-ltb, le-ltb, ltb-false}
@@ -17,8 +17,10 @@ use Rattle.paper.specs.Text.{text, text_out, write, head_form}
 use Rattle.paper.specs.declared.Refusal.{Refusal}
 use Rattle.laws.proofs.Every.{neither}
 use Rattle.laws.proofs.Writing as writing
+use Rattle.laws.proofs.Refusals.{refuse_accept}
+use Rattle.rows.proofs.Rest.{by_test}
 use Rattle.rows.specs.Places.{given}
-use Rattle.row_checks.specs.Verdicts.{Judges, Passes}
+use Rattle.row_checks.specs.Verdicts.{sized, Judges, Passes}
 use Rattle.row_checks.proofs.Judged.{judged, passing, plain_bounded, plain_passed}
 use Rattle.text_laws.specs.Written.{head_text, rows_text}
 use Rattle.text_laws.proofs.Put.{put_front}
@@ -34,9 +36,12 @@ written {ruling} {t} {a = a} {b = b} e z p q =
     rw m (writing.written e (q ∙ p.holds ∙ rw z (put_front a.out.now t)))
 
 module _ (p : ℤ) (k : ℕ) (ns : List ℤ) (room : ℕ) where
-  pub out_slice : row_slice ns ≡ true → text_out p k ns room ≡ refuse 1 []
+  pub out_sized : {A : Type 0} (f : Refusal) → Judges {A = A} (sized ns) (Err f)
+      → text_out p k ns room ≡ refuse (number f) (detail f)
   unfolding text_out
-  out_slice e = rw e
+  out_sized f j =
+      let q = judged (accept (text p k ns)) j in
+      by_test (row_slice ns) (λ e. rw e (rw e at q)) (λ e. refuse_accept (sym (rw e at q)))
 
   module _ (whole : row_slice ns ≡ false) where
     pub out_room : room < 262144 → text_out p k ns room ≡ refuse 1 []

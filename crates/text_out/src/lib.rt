@@ -15,9 +15,7 @@ pub fn text_out(table: Table, out: &mut [u8]) -> Result<usize, Refusal>
     ensures { Writes (text_out table.entry.prod0 table.entry.k table.entry.rows.now (length out.old))
         result out.old out.new }
 {
-    if row_checks::row_slice(table.rows) {
-        return Err(Refusal::Length);
-    }
+    row_checks::sized(table)?;
     if out.len() < 262144 {
         return Err(Refusal::Length);
     }

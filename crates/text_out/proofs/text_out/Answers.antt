@@ -8,27 +8,29 @@ use Rattle.rows.specs.Places.{given}
 use Rattle.std.proofs.lemmas.Result.{err_from_is_err_and}
 use Rattle.text_out.proofs.Written.{adds_on, adds_as}
 use Rattle.laws.proofs.Writing.{refused}
-use Rattle.row_checks.proofs.Judged.{plain_bounded, passes}
-use Rattle.text_out.proofs.Out.{written, out_slice, out_room, out_refused, out_text, in_slice, text_parts}
+use Rattle.row_checks.proofs.Judged.{plain_bounded, passes, passes_first}
+use Rattle.text_out.proofs.Out.{written, out_sized, out_room, out_refused, out_text, in_slice, text_parts}
 use Rattle.text_out.proofs.text_out.Goals as goal
 
-pub returns-then-row_slice : goal.returns-then-row_slice
-returns-then-row_slice c = refused Length (out_slice _ _ _ _ (sym c.row_slice.ensures ∙ c.if-row_slice.true))
+pub returns-in_err-sized : goal.returns-in_err-sized
+returns-in_err-sized c =
+    let p = err_from_is_err_and c.from_residual.result c.from_residual.ensures.1 in
+    rw (p.1, p.2) (refused _ (out_sized _ _ _ _ _ c.in_err-sized.ensures.judges))
 
 pub returns-then-out-lt262144 : goal.returns-then-out-lt262144
 returns-then-out-lt262144 c =
-    refused Length (out_room _ _ _ _ (sym c.row_slice.ensures ∙ c.if-row_slice.false) c.if-out-lt262144.true)
+    refused Length (out_room _ _ _ _ ((passes_first (passes c.in_ok-sized.ensures.judges)).0) c.if-out-lt262144.true)
 
 pub returns-in_err-checked : goal.returns-in_err-checked
 returns-in_err-checked c =
-    let p = err_from_is_err_and c.from_residual.result c.from_residual.ensures.1 in
-    let whole = sym c.row_slice.ensures ∙ c.if-row_slice.false in
+    let p = err_from_is_err_and c.from_residual-in_err-checked.result c.from_residual-in_err-checked.ensures.1 in
+    let whole = (passes_first (passes c.in_ok-sized.ensures.judges)).0 in
     rw (p.1, p.2) (refused _ (out_refused _ _ _ _ whole c.if-out-lt262144.false _ c.in_err-checked.ensures.judges))
 
 pub put_head-requires : goal.put_head-requires
 put_head-requires c =
     let t = c.args.table in
-    let h = plain_bounded (table t.prod0 t.k t.rows.now) (passes _ refl c.in_ok-checked.ensures.judges) in
+    let h = plain_bounded (table t.prod0 t.k t.rows.now) (passes c.in_ok-checked.ensures.judges) in
     (omega arith, omega (arith, h.k))
 
 pub put_rows-requires : goal.put_rows-requires
@@ -36,14 +38,14 @@ put_rows-requires c =
     let t = c.args.table in
     let same : c.rows.result.numbers.now ≡ t.rows.now =
     c.rows.ensures ∙ ap (λ (x : Table). x.rows.now) c.in_ok-checked.ensures.same in
-    let few = in_slice t.rows.now (sym c.row_slice.ensures ∙ c.if-row_slice.false) in
+    let few = in_slice t.rows.now ((passes_first (passes c.in_ok-sized.ensures.judges)).0) in
     omega (arith, few, ap length same)
 
 pub returns : goal.returns
 returns c =
     let t = c.args.table in
-    let passed = passes _ refl c.in_ok-checked.ensures.judges in
-    let whole = sym c.row_slice.ensures ∙ c.if-row_slice.false in
+    let passed = passes c.in_ok-checked.ensures.judges in
+    let whole = (passes_first (passes c.in_ok-sized.ensures.judges)).0 in
     let same : c.rows.result.numbers.now ≡ t.rows.now =
     c.rows.ensures ∙ ap (λ (x : Table). x.rows.now) c.in_ok-checked.ensures.same in
     let root : given c.root.result ≡ accepting t.prod0 =
