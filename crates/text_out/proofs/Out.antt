@@ -1,7 +1,7 @@
 -- What text out answers, check by check. Assumes nothing.
 use Prim.Native.Nat.{ℕ, ◌%◌, ◌<◌, ◌≤◌}
 use mathlib.Core.Path.{◌≡◌, ap, sym, ◌∙◌}
-use mathlib.Core.Bool.{false, not}
+use mathlib.Core.Bool.{true, false, not}
 use mathlib.Core.List.{List, [], ◌∷◌, ◌++◌, append_assoc}
 use native.Mathlib.Omega.{arith}
 use borrow.Author.Tests.{lt-ltb, le-ltb, ltb-false}
@@ -12,16 +12,16 @@ use Rattle.std.specs.Prelude.{Ok, Err, Option}
 use Rattle.paper.specs.declared.Production.{Production}
 use Rattle.paper.specs.Rows.{table, rows_in, accepting, signed}
 use Rattle.paper.specs.Answers.{Ruling, accept, refuse, number, detail, Writes}
-use Rattle.paper.specs.Checks.{row_slice, plain}
+use Rattle.paper.specs.Checks.{every, row_fits, row_slice, range, plain}
 use Rattle.paper.specs.Text.{text, text_out, write, head_form}
 use Rattle.paper.specs.declared.Refusal.{Refusal}
 use Rattle.laws.proofs.Every.{neither}
 use Rattle.laws.proofs.Writing as writing
 use Rattle.laws.proofs.Refusals.{refuse_accept}
 use Rattle.rows.proofs.Rest.{by_test}
-use Rattle.rows.specs.Places.{given}
+use Rattle.rows.specs.Places.{given, code}
 use Rattle.row_checks.specs.Verdicts.{sized, Judges, Passes}
-use Rattle.row_checks.proofs.Judged.{judged, passing, plain_bounded, plain_passed}
+use Rattle.row_checks.proofs.Judged.{judged, passing, bounded, rows_fit, plain_bounded, plain_passed}
 use Rattle.text_laws.specs.Written.{head_text, rows_text}
 use Rattle.text_laws.proofs.Put.{put_front}
 use Rattle.text_laws.proofs.Kept.{production_kept, lines_kept}
@@ -57,6 +57,16 @@ module _ (p : ℤ) (k : ℕ) (ns : List ℤ) (room : ℕ) where
       pub out_text : Passes (plain (table p k ns)) → text_out p k ns room ≡ accept (text p k ns)
       unfolding text_out
       out_text j = rw (whole, le-ltb room 262144 wide) (passing (accept (text p k ns)) j)
+
+-- what a table within its bounds is
+pub record Ranged (p : ℤ) (k : ℕ) (ns : List ℤ) : Type 0 where
+  pub prod0 : code (accepting p) ≤ 65536
+  pub few : k ≤ 16
+  pub rows : every row_fits (rows_in ns) ≡ true
+
+pub in_range : (p : ℤ) (k : ℕ) (ns : List ℤ) → range (table p k ns) ≡ false → Ranged p k ns
+in_range p k ns e =
+    let b = bounded (table p k ns) e in record { prod0 = b.prod0; few = b.k; rows = rows_fit (table p k ns) e }
 
 -- a row slice that is taken has at most 16,384 numbers
 pub in_slice : (ns : List ℤ) → row_slice ns ≡ false → length ns ≤ 16384
