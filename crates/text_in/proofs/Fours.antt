@@ -2,6 +2,8 @@
 use Prim.Native.Nat.{ℕ, suc, ◌+◌, ◌*◌}
 use mathlib.Core.Path.{◌≡◌, refl}
 use mathlib.Core.Bool.{Bool, true, false, cond}
+use Rattle.std.specs.Prelude.{Some, None}
+use Rattle.std.specs.Prelude as prelude
 use mathlib.Core.Option.{Option, none, some}
 use mathlib.Core.List.{List, [], ◌∷◌, ◌++◌}
 use native.Mathlib.Omega.{arith}
@@ -10,7 +12,6 @@ use lib.IntN.{ℤ}
 use Rattle.paper.specs.Answers.{Ruling, accept, refuse, then}
 use Rattle.paper.specs.Text.{Line, lines, read, read_line, read_rows, row_form}
 use Rattle.text_lines.specs.declared.reading.RowLine.{RowLine}
-use Rattle.text_lines.specs.declared.reading.RowLine.TheVariants as row_Line
 use Rattle.text_lines.specs.Reading.{row_of}
 use Rattle.text_in.specs.Tally.{rows_read, numbers_from}
 use Rattle.text_lines.proofs.Told.{row_told, row_is_read}
@@ -24,9 +25,9 @@ abbrev pub size : Ruling (List ℤ) → ℕ → Type 0
 size (accept ns) n = length ns ≡ n
 size (refuse m d) n = Unit
 
-told_four : (r : RowLine) → sized (row_told r)
-told_four (row_Line.Row f t g p n) = refl
-told_four row_Line.Bad = tt
+told_four : (r : prelude.Option RowLine) → sized (row_told r)
+told_four (Some r) = refl
+told_four None = tt
 
 read_four : (b : Bool) (l : List ℕ) → sized (cond b (read row_form l) none)
 read_four true l = rw (row_is_read l 0) at (told_four (row_of l 0))

@@ -10,15 +10,14 @@ use lib.Dec.{eqb, ltb, leb-suc-suc}
 use lib.IntN.{ℤ, pos}
 use lib.ListN.{length, get_or, drop, length-drop, drop_of_length-le}
 use lib.Seq.{drop-drop}
-use Rattle.paper.specs.Rows.{Table, table, natural, signed}
+use Rattle.std.specs.Prelude.{Some, None}
+use Rattle.paper.specs.Rows.{Table, table, natural}
 use Rattle.paper.specs.Answers.{Ruling, accept, refuse, then}
 use Rattle.paper.specs.Text.{Line, longer, lines, Piece, read, read_line, read_rows, read_lines, row_form, head_form}
-use Rattle.rows.specs.Places.{uncoded, row}
 use Rattle.rows.proofs.Rest.{by_test}
-use Rattle.text_lines.specs.declared.reading.RowLine.TheVariants as row_Line
-use Rattle.text_lines.specs.declared.reading.HeadLine.TheVariants as head_line
+use Rattle.text_lines.specs.declared.reading.RowLine.{RowLine}
+use Rattle.text_lines.specs.declared.reading.HeadLine.{HeadLine}
 use Rattle.text_lines.specs.Reading.{front, line_end, row_from, head_from}
-use Rattle.text_laws.specs.Written.{row_numbers}
 use Rattle.text_in.specs.Tally.{rows_read}
 use Rattle.text_lines.proofs.Told.{row_told, row_is_read, head_told, head_is_read}
 use Rattle.text_lines.proofs.Small.{head_from_at}
@@ -94,6 +93,10 @@ module _ (t : List ℕ) (at : ℕ) where
       drop-drop (suc n) at t ∙ let m : at + suc n ≡ at + n + 1 = omega arith in rw m in
       lines_first bs (omega (arith, length-drop at t)) ∙ rw (e, d)
 
+-- the numbers of a row's line
+abbrev pub line_numbers : RowLine → List ℤ
+line_numbers r = pos r.from ∷ pos r.terminal ∷ pos r.to ∷ r.production ∷ []
+
 -- a line in form, or not
 pub line_read : (form : List Piece) (at : ℕ) (l : Line) (ns : List ℤ) →
     cond l.ended (read form l.bytes) none ≡ some ns →
@@ -123,12 +126,12 @@ module _ (t : List ℕ) (at : ℕ) where
     unfolding rows_read read_rows line_end
     rows_here = ap (read_rows at) (lines_at t at h)
 
-    pub rows_bad : row_from t at ≡ row_Line.Bad → rows_read t at ≡ refuse 13 (at ∷ [])
+    pub rows_bad : row_from t at ≡ None → rows_read t at ≡ refuse 13 (at ∷ [])
     rows_bad e = rows_here ∙ rw (line_unread row_form at (line_at t at) (row_read ∙ ap row_told e))
 
-    pub rows_row : (f o g c n : ℕ) → row_from t at ≡ row_Line.Row f o g c n →
-        rows_read t at ≡ then (rows_read t (line_end t at + 1)) (λ ns. accept (row_numbers (row f o g c) ++ ns))
-    rows_row f o g c n e = rows_here ∙ rw (line_read row_form at (line_at t at) _ (row_read ∙ ap row_told e))
+    pub rows_row : (r : RowLine) → row_from t at ≡ Some r →
+        rows_read t at ≡ then (rows_read t (line_end t at + 1)) (λ ns. accept (line_numbers r ++ ns))
+    rows_row r e = rows_here ∙ rw (line_read row_form at (line_at t at) _ (row_read ∙ ap row_told e))
 
 -- the head line
 no_line : (t : List ℕ) → length t ≤ 0 → read_lines (lines t) ≡ refuse 13 (0 ∷ [])
@@ -143,8 +146,8 @@ module _ (t : List ℕ) where
       (λ e. rw e (sym (head_is_read (front t) (line_end t 0 + 1))))
       (λ e. rw e)
 
-  some_head : (p k n : ℕ) → head_from t 0 ≡ head_line.Head p k n → 0 < length t
-  some_head p k n e = omega (arith, (head_from_at t p k n e).inside, (head_from_at t p k n e).place)
+  some_head : (h : HeadLine) → head_from t 0 ≡ Some h → 0 < length t
+  some_head h e = omega (arith, (head_from_at t 0 h e).inside, (head_from_at t 0 h e).place)
 
   head_here : 0 < length t → read_lines (lines t) ≡ then (read_line head_form 0 (line_at t 0)) (λ h.
       then (rows_read t (line_end t 0 + 1)) (λ ns.
@@ -159,13 +162,13 @@ module _ (t : List ℕ) where
       ap read_lines (lines_at t 0 h) ∙ ap of_rows n
 
   -- the table, from its rows
-  pub head_rows : (p k n : ℕ) → head_from t 0 ≡ head_line.Head p k n →
-      read_lines (lines t) ≡ then (rows_read t n) (λ ns. accept (table (signed (uncoded p)) k ns))
-  head_rows p k n e =
-      let q = line_read head_form 0 (line_at t 0) (signed (uncoded p) ∷ pos k ∷ []) (head_read ∙ ap head_told e) in
-      head_here (some_head p k n e) ∙ rw (q, (head_from_at t p k n e).place)
+  pub head_rows : (h : HeadLine) → head_from t 0 ≡ Some h →
+      read_lines (lines t) ≡ then (rows_read t h.next) (λ ns. accept (table h.prod0 h.k ns))
+  head_rows h e =
+      let q = line_read head_form 0 (line_at t 0) (h.prod0 ∷ pos h.k ∷ []) (head_read ∙ ap head_told e) in
+      head_here (some_head h e) ∙ rw (q, (head_from_at t 0 h e).place)
 
-  pub head_bad : head_from t 0 ≡ head_line.Bad → read_lines (lines t) ≡ refuse 13 (0 ∷ [])
+  pub head_bad : head_from t 0 ≡ None → read_lines (lines t) ≡ refuse 13 (0 ∷ [])
   head_bad e = by_test (ltb 0 (length t))
       (λ h. head_here (ltb-true 0 (length t) h) ∙ rw
       (line_unread head_form 0 (line_at t 0) (head_read ∙ ap head_told e)))

@@ -4,40 +4,34 @@ use mathlib.Core.Path.{◌≡◌, refl, ap, ◌∙◌}
 use mathlib.Core.List.{List, [], ◌∷◌, ◌++◌}
 use lib.IntN.{ℤ}
 use lib.ListN.{length}
-use Rattle.laws.proofs.RowNumbers.{accepting_signed}
+use Rattle.std.specs.Prelude.{Some, None}
 use Rattle.paper.specs.Rows.{Row, rows_in}
 use Rattle.paper.specs.Answers.{Ruling, accept, refuse, then}
-use Rattle.rows.specs.Places.{uncoded, row}
-use Rattle.text_lines.specs.declared.reading.RowLine.TheVariants as row_Line
+use Rattle.text_lines.specs.declared.reading.RowLine.{RowLine}
 use Rattle.text_in.specs.declared.passes.Tally.{Tally}
 use Rattle.text_lines.specs.Reading.{row_from}
-use Rattle.text_laws.specs.Written.{row_numbers}
-use Rattle.text_in.specs.Tally.{rows_read, tallied, tally, tally_from}
-use Rattle.text_in.proofs.Parted.{rows_end, rows_bad, rows_row}
+use Rattle.text_in.specs.Tally.{rows_read, read_row, tallied, tally, tally_from}
+use Rattle.text_in.proofs.Parted.{line_numbers, rows_end, rows_bad, rows_row}
 use Rattle.text_lines.proofs.Small.{row_from_at}
 
--- a row's numbers are the row
-pub row_back : (f o g c : ℕ) (ns : List ℤ) → rows_in (row_numbers (row f o g c) ++ ns) ≡ row f o g c ∷ rows_in ns
-row_back f o g c ns = rw (accepting_signed (uncoded c))
-
 -- the rows from a place on, when a row stands there
-module _ (t : List ℕ) (at f o g c n : ℕ) (h : at < length t) (e : row_from t at ≡ row_Line.Row f o g c n) where
-  pub rows_cons : rows_read t at ≡ then (rows_read t n) (λ ns. accept (row_numbers (row f o g c) ++ ns))
-  rows_cons = rows_row t at h f o g c n e ∙ rw (row_from_at t at f o g c n e).small.place
+module _ (t : List ℕ) (at : ℕ) (r : RowLine) (h : at < length t) (e : row_from t at ≡ Some r) where
+  pub rows_cons : rows_read t at ≡ then (rows_read t r.next) (λ ns. accept (line_numbers r ++ ns))
+  rows_cons = rows_row t at h r e ∙ rw (row_from_at t at r e).place
 
-  pub tally_row : (s : Tally) → tally_from t at s ≡ tally_from t n (tallied s (row f o g c))
+  pub tally_row : (s : Tally) → tally_from t at s ≡ tally_from t r.next (tallied s (read_row r))
   unfolding tally_from tally
   tally_row s =
-      ap (λ (r : Ruling (List ℤ)). then r (λ ns. accept (tally s (rows_in ns)))) rows_cons ∙ go (rows_read t n)
+      ap (λ (x : Ruling (List ℤ)). then x (λ ns. accept (tally s (rows_in ns)))) rows_cons ∙ go (rows_read t r.next)
     where
-      go : (r : Ruling (List ℤ)) →
-          then (then r (λ ns. accept (row_numbers (row f o g c) ++ ns))) (λ ns. accept (tally s (rows_in ns)))
-          ≡ then r (λ ns. accept (tally (tallied s (row f o g c)) (rows_in ns)))
-      go (accept ns) = ap (λ (rs : List Row). accept (tally s rs)) (row_back f o g c ns)
+      go : (x : Ruling (List ℤ)) →
+          then (then x (λ ns. accept (line_numbers r ++ ns))) (λ ns. accept (tally s (rows_in ns)))
+          ≡ then x (λ ns. accept (tally (tallied s (read_row r)) (rows_in ns)))
+      go (accept ns) = refl
       go (refuse m d) = refl
 
 module _ (t : List ℕ) (at : ℕ) (s : Tally) where
-  pub tally_bad : at < length t → row_from t at ≡ row_Line.Bad → tally_from t at s ≡ refuse 13 (at ∷ [])
+  pub tally_bad : at < length t → row_from t at ≡ None → tally_from t at s ≡ refuse 13 (at ∷ [])
   unfolding tally_from
   tally_bad h e = rw (rows_bad t at h e)
 

@@ -4,14 +4,17 @@ use Rattle.paper.specs.Rows.{Row, rows_in}
 use Rattle.paper.specs.Answers.{Ruling, accept, refuse, then}
 use Rattle.paper.specs.Checks.{every, row_fits}
 use Rattle.paper.specs.Text.{lines, read_rows}
-use Rattle.rows.specs.Places.{key}
+use Rattle.rows.specs.Places.{key, row}
 use Rattle.text_in.specs.declared.passes.Tally.{Tally}
-use Rattle.text_in.specs.declared.passes.Pass.{Pass}
-use Rattle.text_in.specs.declared.passes.Pass.TheVariants.{Rows, Bad}
+use Rattle.text_lines.specs.declared.reading.RowLine.{RowLine}
 
 -- The numbers of the rows from a place on.
 unfoldable pub rows_read : List ℕ → ℕ → Ruling (List ℤ)
 rows_read t at = read_rows at (lines (drop at t))
+
+-- The row of a line.
+abbrev pub read_row : RowLine → Row
+read_row l = row l.from l.terminal l.to l.production
 
 -- One row more: the count, whether all rows are within bounds, whether their keys rise, the least key that rises.
 unfoldable pub tallied : Tally → Row → Tally
@@ -34,11 +37,6 @@ start = record { rows = 0; fits = true; rising = true; least = 0 }
 -- What the pass over rows from a place on answers.
 unfoldable pub tally_from : List ℕ → ℕ → Tally → Ruling Tally
 tally_from t at s = then (rows_read t at) (λ ns. accept (tally s (rows_in ns)))
-
--- The ruling that the pass states.
-abbrev pub scanned : Pass → Ruling Tally
-scanned (Rows s) = accept s
-scanned (Bad at) = refuse 13 (at ∷ [])
 
 -- The numbers of the rows from a place on, if all are in form.
 abbrev pub taken : Ruling (List ℤ) → List ℤ

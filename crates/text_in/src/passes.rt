@@ -1,16 +1,17 @@
 // Text in: the pass that looks at every row, and the pass that writes them.
-ghost use Rattle.std.specs.Prelude.{◌≡◌, ◌&&◌, ◌+◌, ◌<◌, ◌≤◌, length};
+ghost use Rattle.std.specs.Prelude.{◌≡◌, ◌+◌, ◌<◌, ◌≤◌, length};
+ghost use Rattle.paper.specs.Answers.{stated};
 ghost use Rattle.text_laws.specs.Put.{put};
-ghost use Rattle.rows.specs.Places.{row};
-ghost use Rattle.text_in.specs.Tally.{tallied, tally_from, start, scanned, numbers_from, Ready};
+ghost use Rattle.text_in.specs.Tally.{tallied, read_row, tally_from, start, numbers_from, Ready};
 
+use paper::Refusal;
 use rows::numbers;
 use text_lines::reading;
 use text_lines::reading::RowLine;
 
 // What is known of the rows so far: how many, whether all are within bounds, whether their keys
 // rise, and the least key that rises.
-#[derive(Clone, Copy)]
+#[derive(Clone, Copy, Debug, PartialEq, Eq)]
 pub struct Tally {
     pub rows: usize,
     pub fits: bool,
@@ -18,40 +19,25 @@ pub struct Tally {
     pub least: usize,
 }
 
-// Of all rows, or the offset of the first bad line.
-#[derive(Clone, Copy)]
-pub enum Pass {
-    Rows(Tally),
-    Bad(usize),
-}
-
-// Both are true.
-pub fn both(a: bool, b: bool) -> bool
-    ensures { result ≡ a && b }
-{
-    if a { b } else { false }
-}
-
 // One row more.
-fn tallied(tally: Tally, from: usize, on: usize, to: usize, code: usize) -> Tally
-    requires { (tally.rows < 9223372036854775808) × (from < 100000) × (on < 100000) }
-    ensures { result ≡ tallied tally (row from on to code) }
+#[tactic(auto, unfolding(crate::specs::Tally::tallied))]
+fn tallied(tally: Tally, row: RowLine) -> Tally
+    requires { (tally.rows < 9223372036854775808) × (row.from < 100000) × (row.terminal < 100000) }
+    ensures { result ≡ tallied tally (read_row row) }
 {
-    let key = from * 65536 + on;
-    let fits = both(tally.fits, row_checks::row_fits(from, on, to, code));
-    let rising = both(tally.rising, tally.least <= key);
+    let key = row.from * 65536 + row.terminal;
     Tally {
         rows: tally.rows + 1,
-        fits,
-        rising,
+        fits: tally.fits && row_checks::row_fits(row.from, row.terminal, row.to, row.production),
+        rising: tally.rising && tally.least <= key,
         least: key + 1,
     }
 }
 
-// The pass over the lines from a place on: every row in form, or the offset of the first bad line.
-pub fn scan(text: &[u8], at: usize) -> Pass
+// The pass over the lines from a place on: every row in form, or 13 TEXT with the offset of the first bad line.
+pub fn scan(text: &[u8], at: usize) -> Result<Tally, Refusal>
     requires { at ≤ length text.now }
-    ensures { scanned result ≡ tally_from text.now at start }
+    ensures { stated result ≡ tally_from text.now at start }
 {
     let mut tally = Tally {
         rows: 0,
@@ -60,14 +46,14 @@ pub fn scan(text: &[u8], at: usize) -> Pass
         least: 0,
     };
     let mut place = at;
-    while place < text.len() {
-        let RowLine::Row(from, on, to, code, next) = reading::row_from(text, place) else {
-            return Pass::Bad(place);
-        };
-        tally = tallied(tally, from, on, to, code);
-        place = next;
+    while let Some(row) = reading::row_from(text, place) {
+        tally = tallied(tally, row);
+        place = row.next;
     }
-    Pass::Rows(tally)
+    if place < text.len() {
+        return Err(Refusal::Text(place));
+    }
+    Ok(tally)
 }
 
 // The pass that writes the rows of the lines from a place on.
@@ -77,12 +63,10 @@ pub fn fill(text: &[u8], at: usize, out: &mut [i32])
 {
     let mut place = at;
     let mut i = 0;
-    while place < text.len() {
-        let RowLine::Row(from, on, to, code, next) = reading::row_from(text, place) else {
-            return;
-        };
-        numbers::put_row(out, i, from, on, to, code);
+    while let Some(row) = reading::row_from(text, place) {
+        let production = numbers::accepting(row.production);
+        numbers::put_row(out, i, row.from, row.terminal, row.to, production);
         i += 4;
-        place = next;
+        place = row.next;
     }
 }

@@ -1,5 +1,3 @@
-pub mod Never
-pub mod Rowed
 pub mod Ended
 pub mod Told
 pub mod Small

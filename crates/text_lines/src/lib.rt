@@ -1,6 +1,4 @@
 // Text in: the lines of a text.
 #![tactic(auto)]
 
-mod ends;
-mod reader;
 pub mod reading;

@@ -1,44 +1,41 @@
 -- The bytes of numbers and lines, as they are written one after another. Assumes nothing.
-use Prim.Native.Nat.{ℕ, zero, suc, ◌+◌, ◌-◌, ◌≤◌}
-use mathlib.Core.Path.{◌≡◌, refl, ap, ◌∙◌}
+use Prim.Native.Nat.{ℕ, ◌+◌, ◌≤◌}
+use mathlib.Core.Path.{◌≡◌, ap, ◌∙◌}
 use mathlib.Core.List.{List, [], ◌∷◌, ◌++◌, append_assoc}
 use native.Mathlib.Omega.{arith}
 use lib.ListN.{length, length-append}
 use lib.IntN.{ℤ, pos}
-use Rattle.paper.specs.Rows.{signed}
 use Rattle.paper.specs.Words.{bytes}
 use Rattle.paper.specs.Text.{digits, decimal, write, head_form, row_form}
-use Rattle.rows.specs.Places.{uncoded}
-use Rattle.text_laws.specs.Put.{put, Puts}
+use Rattle.text_laws.specs.Put.{put}
+use Rattle.text_out.specs.declared.writing.Writer.{Writer}
+use Rattle.text_out.specs.Added.{Adds}
 use Rattle.text_laws.specs.Written.{head_text}
 use Rattle.text_laws.proofs.Put.{put_put}
 
--- a production's bytes by its code
-pub decimal_none : (c : ℕ) → c ≡ 0 → decimal (signed (uncoded c)) ≡ 45 ∷ 49 ∷ []
-unfolding decimal bytes
-decimal_none c e = rw e
-
-pub decimal_some : (c : ℕ) → (c ≡ 0 → ⊥) → decimal (signed (uncoded c)) ≡ digits 5 (c - 1)
-unfolding decimal
-decimal_some zero h = absurd (h refl)
-decimal_some (suc n) h = let e : suc n - 1 ≡ n = omega arith in rw e
-
-module _ {A : Type 0} {l m a : List A} {at n r : ℕ} (p : Puts l at r a m n) where
+module _ {a b : Writer} {r : ℕ} {x : List ℕ} (p : Adds a b r x) where
   -- what is written on from where a writing ends is one writing
-  pub puts_on : {m' b : List A} {n' r' : ℕ} → at + r ≤ length l → Puts m n r' b m' n' →
-      Puts l at (r + r') (a ++ b) m' n'
-  puts_on {m'} {b} {n'} h q = record {
-    place = omega (arith, q.place, p.place, length-append a b);
-    within = omega arith;
+  pub adds_on : {c : Writer} {s : ℕ} {y : List ℕ} → a.at + r ≤ length a.out.now → Adds b c s y → Adds a c (r + s) (x ++ y)
+  adds_on {c} {s} {y} h q = record {
+    place = omega (arith, q.place, p.place, length-append x y);
+    within = omega (arith, q.within, p.within);
     holds = q.holds
-        ∙ ap (λ (x : List A). put x n b) p.holds
-        ∙ ap (λ (x : ℕ). put (put l at a) x b) p.place
-        ∙ put_put l at a (omega arith) b;
+        ∙ ap (λ (l : List ℕ). put l b.at y) p.holds
+        ∙ ap (λ (n : ℕ). put (put a.out.now a.at x) n y) p.place
+        ∙ put_put a.out.now a.at x (omega (arith, p.place, p.within)) y;
+    long = q.long ∙ p.long;
+    same = q.same ∙ p.same;
   }
 
-  -- the same bytes
-  pub puts_as : {b : List A} → a ≡ b → Puts l at r b m n
-  puts_as e = rw e at p
+  -- the same bytes, within more room
+  pub adds_as : {y : List ℕ} {s : ℕ} → r ≤ s → x ≡ y → Adds a b s y
+  adds_as h e = record {
+    place = rw (← e) p.place;
+    within = omega (arith, p.within);
+    holds = rw (← e) p.holds;
+    long = p.long;
+    same = p.same;
+  }
 
 -- the parts of a line, grouped as they are written and as its form has them
 head_grouped : (w p s n e l : List ℕ) → ((w ++ p) ++ (s ++ n)) ++ (e ++ l) ≡ (w ++ (p ++ (s ++ (n ++ (e ++ []))))) ++ l

@@ -1,124 +1,116 @@
-// Text out: words, numbers and lines, each at a place of the output.
-ghost use Rattle.std.specs.Prelude.{◌≡◌, true, ◌+◌, ◌*◌, ◌<◌, ◌≤◌, ◌++◌, length};
+// Text out: words, numbers and lines, one after another.
+ghost use Rattle.std.specs.Prelude.{◌≡◌, ◌+◌, ◌*◌, ◌<◌, ◌≤◌, ◌++◌, length, pos};
 ghost use Rattle.paper.specs.Rows.{signed, rows_in};
-ghost use Rattle.paper.specs.Checks.{every, row_fits};
 ghost use Rattle.paper.specs.Text.{digits, decimal};
-ghost use Rattle.rows.specs.Places.{uncoded, row};
-ghost use Rattle.text_laws.specs.Put.{Puts};
+ghost use Rattle.rows.specs.Places.{given, row};
 ghost use Rattle.text_laws.specs.Written.{head_text, row_text, rows_text};
+ghost use Rattle.text_out.specs.Added.{Adds};
 
-use rows::numbers;
-
-// A word.
-pub fn put_word(out: &mut [u8], at: usize, word: &[u8]) -> usize
-    requires { at + length word.now ≤ length out.old }
-    ensures { Puts out.old at (length word.now) word.now out.new result }
-{
-    let mut i = 0;
-    while i < word.len() {
-        out[at + i] = word[i];
-        i += 1;
-    }
-    at + i
-}
+use paper::Production;
+use rows::Rows;
 
 // How many digits a number takes.
 fn width(n: usize) -> usize
     requires { n < 100000 }
     ensures { result ≡ length (digits 5 n) }
 {
-    if n < 10 {
-        return 1;
+    match n {
+        0..=9 => 1,
+        10..=99 => 2,
+        100..=999 => 3,
+        1000..=9999 => 4,
+        _ => 5,
     }
-    if n < 100 {
-        return 2;
-    }
-    if n < 1000 {
-        return 3;
-    }
-    if n < 10000 {
-        return 4;
-    }
-    5
 }
 
-// A number, its last digit first.
-fn put_number(out: &mut [u8], at: usize, n: usize) -> usize
-    requires { (at + 5 ≤ length out.old) × (n < 100000) }
-    ensures { Puts out.old at 5 (digits 5 n) out.new result }
-{
-    let count = width(n);
-    let mut left = n;
-    let mut i = count;
-    while 0 < i {
-        i -= 1;
-        out[at + i] = 48 + (left % 10) as u8;
-        left /= 10;
+// An output, and the place in it that is written next.
+#[derive(Drop)]
+pub struct Writer<'a> {
+    pub out: &'a mut [u8],
+    pub at: usize,
+}
+
+impl<'a> Writer<'a> {
+    // A word.
+    pub fn put_word(&mut self, word: &[u8])
+        requires { self.old.at + length word.now ≤ length self.old.out.now }
+        ensures { Adds self.old self.new (length word.now) word.now }
+    {
+        self.out[self.at..self.at + word.len()].copy_from_slice(word);
+        self.at += word.len();
     }
-    at + count
-}
 
-// A production by its code.
-fn put_production(out: &mut [u8], at: usize, code: usize) -> usize
-    requires { (at + 5 ≤ length out.old) × (code ≤ 100000) }
-    ensures { Puts out.old at 5 (decimal (signed (uncoded code))) out.new result }
-{
-    if code == 0 {
-        return put_word(out, at, b"-1");
+    // A number, its last digit first.
+    fn put_number(&mut self, n: usize)
+        requires { (self.old.at + 5 ≤ length self.old.out.now) × (n < 100000) }
+        ensures { Adds self.old self.new 5 (digits 5 n) }
+    {
+        let count = width(n);
+        let mut left = n;
+        for i in (0..count).rev() {
+            self.out[self.at + i] = b'0' + (left % 10) as u8;
+            left /= 10;
+        }
+        self.at += count;
     }
-    put_number(out, at, code - 1)
-}
 
-// A word and the number after it.
-pub fn put_field(out: &mut [u8], at: usize, word: &[u8], n: usize) -> usize
-    requires { (at + (length word.now + 5) ≤ length out.old) × (n < 100000) }
-    ensures { Puts out.old at (length word.now + 5)
-        (word.now ++ digits 5 n) out.new result }
-{
-    let place = put_word(out, at, word);
-    put_number(out, place, n)
-}
-
-// The head line, of prod0's code and k.
-pub fn put_head(out: &mut [u8], code: usize, k: usize) -> usize
-    requires { (18 ≤ length out.old) × (code ≤ 100000) × (k < 100000) }
-    ensures { Puts out.old 0 18 (head_text (signed (uncoded code)) k) out.new result }
-{
-    let a = put_word(out, 0, b"Dfa(");
-    let b = put_production(out, a, code);
-    let c = put_field(out, b, b", ", k);
-    put_word(out, c, b")\n")
-}
-
-// A row's line, of its numbers and its production's code.
-fn put_row(out: &mut [u8], at: usize, from: usize, on: usize, to: usize, code: usize) -> usize
-    requires { (at + 35 ≤ length out.old) × (from < 100000) × (on < 100000) × (to < 100000) × (code ≤ 100000) }
-    ensures { Puts out.old at 35 (row_text (row from on to code)) out.new result }
-{
-    let a = put_field(out, at, b"Trans(", from);
-    let b = put_field(out, a, b", ", on);
-    let c = put_field(out, b, b", ", to);
-    let d = put_word(out, c, b", ");
-    let e = put_production(out, d, code);
-    put_word(out, e, b"),\n")
-}
-
-// A line for each row of a table whose rows are within their bounds.
-pub fn put_rows(out: &mut [u8], at: usize, table: &[i32]) -> usize
-    requires { (at + length table.now * 9 ≤ length out.old) × (every row_fits (rows_in table.now) ≡ true) }
-    ensures { Puts out.old at (length table.now * 9)
-        (rows_text (rows_in table.now)) out.new result }
-{
-    let n = table.len() / 4;
-    let mut place = at;
-    let mut i = 0;
-    while i < n {
-        let from = numbers::from_at(table, i);
-        let on = numbers::terminal_at(table, i);
-        let to = numbers::to_at(table, i);
-        let code = numbers::code_at(table, i);
-        place = put_row(out, place, from, on, to, code);
-        i += 1;
+    // A production, or -1 for none.
+    fn put_production(&mut self, production: Option<Production>)
+        requires { self.old.at + 5 ≤ length self.old.out.now }
+        ensures { Adds self.old self.new 5 (decimal (signed (given production))) }
+    {
+        match production {
+            None => self.put_word(b"-1"),
+            Some(q) => self.put_number(usize::from(q.0)),
+        }
     }
-    place
+
+    // A word and the number after it.
+    pub fn put_field(&mut self, word: &[u8], n: usize)
+        requires { (self.old.at + (length word.now + 5) ≤ length self.old.out.now) × (n < 100000) }
+        ensures { Adds self.old self.new (length word.now + 5) (word.now ++ digits 5 n) }
+    {
+        self.put_word(word);
+        self.put_number(n);
+    }
+
+    // The head line.
+    pub fn put_head(&mut self, prod0: Option<Production>, k: usize)
+        requires { (self.old.at + 18 ≤ length self.old.out.now) × (k < 100000) }
+        ensures { Adds self.old self.new 18 (head_text (signed (given prod0)) k) }
+    {
+        self.put_word(b"Dfa(");
+        self.put_production(prod0);
+        self.put_field(b", ", k);
+        self.put_word(b")\n");
+    }
+
+    // A row's line.
+    fn put_row(&mut self, from: usize, terminal: usize, to: usize, production: Option<Production>)
+        requires { (self.old.at + 35 ≤ length self.old.out.now) × (from < 100000) × (terminal < 100000) × (to < 100000) }
+        ensures { Adds self.old self.new 35 (row_text (row from terminal to (signed (given production)))) }
+    {
+        self.put_field(b"Trans(", from);
+        self.put_field(b", ", terminal);
+        self.put_field(b", ", to);
+        self.put_word(b", ");
+        self.put_production(production);
+        self.put_word(b"),\n");
+    }
+
+    // A line for each row.
+    pub fn put_rows(&mut self, rows: Rows)
+        requires { self.old.at + length rows.numbers.now * 9 ≤ length self.old.out.now }
+        ensures { Adds self.old self.new (length rows.entry.numbers.now * 9)
+            (rows_text (rows_in rows.entry.numbers.now)) }
+    {
+        for i in 0..rows.count() {
+            self.put_row(
+                rows.from(i),
+                rows.terminal(i),
+                rows.to(i),
+                rows.production(i),
+            );
+        }
+    }
 }

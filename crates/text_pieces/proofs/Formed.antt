@@ -1,8 +1,10 @@
 -- What the pieces of a line say of reading it by its form. Assumes nothing.
 use Prim.Native.String.{String}
-use Prim.Native.Nat.{ℕ, suc, ◌+◌, ◌<◌, ◌≤◌}
+use Prim.Native.Nat.{ℕ, ◌+◌, ◌<◌, ◌≤◌}
 use mathlib.Core.Path.{◌≡◌, refl, ap, sym, ◌∙◌}
 use mathlib.Core.Bool.{true, false}
+use Rattle.std.specs.Prelude.{Some, None}
+use Rattle.std.specs.Prelude as prelude
 use mathlib.Core.Option.{Option, none, some}
 use mathlib.Core.List.{List, [], ◌∷◌}
 use native.Mathlib.Omega.{arith}
@@ -12,14 +14,10 @@ use lib.IntN.{ℤ, pos, negsuc}
 use lib.ListN.{length, drop, length-drop}
 use lib.Seq.{drop-drop}
 use Rattle.paper.specs.Words.{bytes}
-use Rattle.paper.specs.Rows.{signed}
 use Rattle.paper.specs.Text.{Piece, word, count, production, past, in_form, value, digit_count, read, and_then}
-use Rattle.rows.specs.Places.{uncoded}
 use Rattle.rows.proofs.Rest.{by_test, both}
-use Rattle.text_pieces.specs.declared.Number.{Number}
-use Rattle.text_pieces.specs.declared.Number.TheVariants.{Is, Bad}
-use Rattle.text_pieces.specs.Pieces.{starts, number_at, as_code, production_at, field_at, last_at, ends_at}
-use Rattle.text_pieces.proofs.Never.{no_number}
+use Rattle.text_pieces.specs.Pieces.{starts, number_at, as_production, production_at, field_at, last_at, ends_at}
+use Rattle.text_pieces.proofs.Never.{no_pair, one_pair}
 use Rattle.text_pieces.proofs.Starts.{past_starts, starts_within}
 
 -- the rest of a form after a word
@@ -45,24 +43,23 @@ module _ (l : List ℕ) (at : ℕ) (ps : List Piece) where
   read_no_word w e = read_after w ps (drop at l) none (past_starts (bytes w) (drop at l) ∙ rw e)
 
   -- a number
-  read_count : (v n : ℕ) → number_at l at ≡ Is v n →
+  read_count : (v n : ℕ) → number_at l at ≡ Some (v, n) →
       read (count ∷ ps) (drop at l) ≡ and_then (pos v) (read ps (drop n l))
   unfolding read number_at
   read_count v n e = by_test (in_form (drop at l))
       (λ f.
       let bs = drop at l in
-      let g : Is (value (digit_count bs) 0 bs) (at + digit_count bs) ≡ Is v n = rw f at e in
-      let a : value (digit_count bs) 0 bs ≡ v = cc in
-      let b : at + digit_count bs ≡ n = cc in
-      rw (f, drop-drop (digit_count bs) at l, a, b))
-      (λ f. no_number (rw f at e))
+      let g : Some (value (digit_count bs) 0 bs, at + digit_count bs) ≡ Some (v, n) = rw f at e in
+      let same = one_pair g in
+      rw (f, drop-drop (digit_count bs) at l, same.0, same.1))
+      (λ f. no_pair (rw f at e))
 
-  read_no_count : number_at l at ≡ Bad → read (count ∷ ps) (drop at l) ≡ none
+  read_no_count : number_at l at ≡ None → read (count ∷ ps) (drop at l) ≡ none
   unfolding read number_at
   read_no_count e = by_test (in_form (drop at l))
       (λ f.
       let bs = drop at l in
-      let g : Is (value (digit_count bs) 0 bs) (at + digit_count bs) ≡ Bad = rw f at e in
+      let g : Some (value (digit_count bs) 0 bs, at + digit_count bs) ≡ None = rw f at e in
       let z : ◌≡◌ {A = ℕ} 0 1 = cc in
       absurd (omega arith))
       (λ f. rw f)
@@ -90,58 +87,56 @@ module _ (l : List ℕ) (at : ℕ) (ps : List Piece) where
       read (production ∷ ps) (drop at l) ≡ read (count ∷ ps) (drop at l)
   no_minus e = read_signed ps (drop at l) none (past_starts (bytes "-1") (drop at l) ∙ rw e)
 
-  read_production : (c n : ℕ) → production_at l at ≡ Is c n →
-      read (production ∷ ps) (drop at l) ≡ and_then (signed (uncoded c)) (read ps (drop n l))
+  read_production : (p : ℤ) (n : ℕ) → production_at l at ≡ Some (p, n) →
+      read (production ∷ ps) (drop at l) ≡ and_then p (read ps (drop n l))
   unfolding production_at
-  read_production c n e = by_test (starts (bytes "-1") (drop at l))
+  read_production p n e = by_test (starts (bytes "-1") (drop at l))
       (λ f.
-      let g : Is 0 (at + 2) ≡ Is c n = rw f at e in
-      let a : 0 ≡ c = cc in
-      let b : at + 2 ≡ n = cc in
-      minus_one f ∙ rw (← a, ← b))
-      (λ f. no_minus f ∙ coded (number_at l at) refl (rw f at e))
+      let g : Some (negsuc 0, at + 2) ≡ Some (p, n) = rw f at e in
+      let same = one_pair g in
+      minus_one f ∙ rw (← same.0, ← same.1))
+      (λ f. no_minus f ∙ counted (number_at l at) refl (rw f at e))
     where
-      coded : (x : Number) → number_at l at ≡ x → as_code x ≡ Is c n →
-          read (count ∷ ps) (drop at l) ≡ and_then (signed (uncoded c)) (read ps (drop n l))
-      coded (Is v m) p q =
-          let a : suc v ≡ c = cc in
-          let b : m ≡ n = cc in
-          read_count l at ps v m p ∙ rw (← a, ← b)
-      coded Bad p q = no_number q
+      counted : (x : prelude.Option (ℕ × ℕ)) → number_at l at ≡ x → as_production x ≡ Some (p, n) →
+          read (count ∷ ps) (drop at l) ≡ and_then p (read ps (drop n l))
+      counted (Some (v, m)) q r =
+          let same = one_pair r in read_count l at ps v m q ∙ rw (← same.0, ← same.1)
+      counted None q r = no_pair r
 
-  read_no_production : production_at l at ≡ Bad → read (production ∷ ps) (drop at l) ≡ none
+  read_no_production : production_at l at ≡ None → read (production ∷ ps) (drop at l) ≡ none
   unfolding production_at
   read_no_production e = by_test (starts (bytes "-1") (drop at l))
-      (λ f. let g : Is 0 (at + 2) ≡ Bad = rw f at e in no_number (sym g))
-      (λ f. no_minus f ∙ coded (number_at l at) refl (rw f at e))
+      (λ f. let g : Some (negsuc 0, at + 2) ≡ None = rw f at e in no_pair (sym g))
+      (λ f. no_minus f ∙ counted (number_at l at) refl (rw f at e))
     where
-      coded : (x : Number) → number_at l at ≡ x → as_code x ≡ Bad → read (count ∷ ps) (drop at l) ≡ none
-      coded (Is v m) p q = no_number (sym q)
-      coded Bad p q = read_no_count l at ps p
+      counted : (x : prelude.Option (ℕ × ℕ)) → number_at l at ≡ x → as_production x ≡ None →
+          read (count ∷ ps) (drop at l) ≡ none
+      counted (Some (v, m)) q r = no_pair (sym r)
+      counted None q r = read_no_count l at ps q
 
 -- a word and what follows it
 module _ (l : List ℕ) (at : ℕ) (ps : List Piece) (w : String) where
-  pub read_field : (v n : ℕ) → field_at l at (bytes w) ≡ Is v n →
+  pub read_field : (v n : ℕ) → field_at l at (bytes w) ≡ Some (v, n) →
       read (word w ∷ count ∷ ps) (drop at l) ≡ and_then (pos v) (read ps (drop n l))
   unfolding field_at
   read_field v n e = by_test (starts (bytes w) (drop at l))
       (λ f. read_word l at (count ∷ ps) w f ∙ read_count l (at + length (bytes w)) ps v n (rw f at e))
-      (λ f. no_number (rw f at e))
+      (λ f. no_pair (rw f at e))
 
-  pub read_no_field : field_at l at (bytes w) ≡ Bad → read (word w ∷ count ∷ ps) (drop at l) ≡ none
+  pub read_no_field : field_at l at (bytes w) ≡ None → read (word w ∷ count ∷ ps) (drop at l) ≡ none
   unfolding field_at
   read_no_field e = by_test (starts (bytes w) (drop at l))
       (λ f. read_word l at (count ∷ ps) w f ∙ read_no_count l (at + length (bytes w)) ps (rw f at e))
       (λ f. read_no_word l at (count ∷ ps) w f)
 
-  pub read_last : (c n : ℕ) → last_at l at (bytes w) ≡ Is c n →
-      read (word w ∷ production ∷ ps) (drop at l) ≡ and_then (signed (uncoded c)) (read ps (drop n l))
+  pub read_last : (p : ℤ) (n : ℕ) → last_at l at (bytes w) ≡ Some (p, n) →
+      read (word w ∷ production ∷ ps) (drop at l) ≡ and_then p (read ps (drop n l))
   unfolding last_at
-  read_last c n e = by_test (starts (bytes w) (drop at l))
-      (λ f. read_word l at (production ∷ ps) w f ∙ read_production l (at + length (bytes w)) ps c n (rw f at e))
-      (λ f. no_number (rw f at e))
+  read_last p n e = by_test (starts (bytes w) (drop at l))
+      (λ f. read_word l at (production ∷ ps) w f ∙ read_production l (at + length (bytes w)) ps p n (rw f at e))
+      (λ f. no_pair (rw f at e))
 
-  pub read_no_last : last_at l at (bytes w) ≡ Bad → read (word w ∷ production ∷ ps) (drop at l) ≡ none
+  pub read_no_last : last_at l at (bytes w) ≡ None → read (word w ∷ production ∷ ps) (drop at l) ≡ none
   unfolding last_at
   read_no_last e = by_test (starts (bytes w) (drop at l))
       (λ f. read_word l at (production ∷ ps) w f ∙ read_no_production l (at + length (bytes w)) ps (rw f at e))

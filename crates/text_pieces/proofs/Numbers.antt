@@ -6,24 +6,17 @@ use mathlib.Core.List.{List, [], ◌∷◌}
 use native.Mathlib.Omega.{arith}
 use native.Mathlib.Nat.{pow-succ', mul_assoc, mul-le-mul_right}
 use native.Mathlib.Numerals.{add-one}
-use borrow.Author.Tests.{le-leb, lt-leb, leb-true}
+use borrow.Author.Tests.{le-leb, leb-true}
 use lib.Dec.{leb}
-use lib.ListN.{length, get_or, drop, drop_of_length-le, length-drop}
-use lib.Seq.{drop-cons, get_or-drop}
+use lib.ListN.{length, get_or, drop, drop_of_length-le}
+use lib.Seq.{drop-cons}
+use Rattle.std.specs.Char.{is_ascii_digit}
 use Rattle.paper.specs.Text.{is_digit, digit_count, value}
 use Rattle.rows.proofs.Rest.{by_test, both}
 
 pub digit_yes : (b : ℕ) → 48 ≤ b → b ≤ 57 → is_digit b ≡ true
 unfolding is_digit
 digit_yes b h k = rw (le-leb 48 b h, le-leb b 57 k)
-
-digit_low : (b : ℕ) → b < 48 → is_digit b ≡ false
-unfolding is_digit
-digit_low b h = rw (lt-leb 48 b h)
-
-digit_high : (b : ℕ) → 57 < b → is_digit b ≡ false
-unfolding is_digit
-digit_high b h = let k : 48 ≤ b = omega arith in rw (le-leb 48 b k, lt-leb b 57 h)
 
 pub digit_of : (b : ℕ) → is_digit b ≡ true → (48 ≤ b) × (b ≤ 57)
 unfolding is_digit
@@ -40,14 +33,13 @@ module _ (l : List ℕ) (k : ℕ) where
     unfolding digit_count
     digits_here = ap digit_count (drop-cons l k 0 h)
 
-    pub digits_next : 48 ≤ get_or l k 0 → get_or l k 0 ≤ 57 → digit_count (drop k l) ≡ suc (digit_count (drop (suc k) l))
-    digits_next a b = digits_here ∙ rw (digit_yes (get_or l k 0) a b)
+    pub digits_next : is_ascii_digit (get_or l k 0) ≡ true → digit_count (drop k l) ≡ suc (digit_count (drop (suc k) l))
+    unfolding is_digit
+    digits_next e = digits_here ∙ rw e
 
-    pub digits_low : get_or l k 0 < 48 → digit_count (drop k l) ≡ 0
-    digits_low a = digits_here ∙ rw (digit_low (get_or l k 0) a)
-
-    pub digits_high : 57 < get_or l k 0 → digit_count (drop k l) ≡ 0
-    digits_high a = digits_here ∙ rw (digit_high (get_or l k 0) a)
+    pub digits_stop : is_ascii_digit (get_or l k 0) ≡ false → digit_count (drop k l) ≡ 0
+    unfolding is_digit
+    digits_stop e = digits_here ∙ rw e
 
 -- one digit more
 value_last : (c n : ℕ) (bs : List ℕ) → c < length bs → value (suc c) n bs ≡ value c n bs * 10 + (get_or bs c 0 - 48)
@@ -56,12 +48,8 @@ value_last c n [] h = absurd (omega arith)
 value_last zero n (b ∷ bs) h = refl
 value_last (suc c) n (b ∷ bs) h = value_last c (n * 10 + (b - 48)) bs (omega arith)
 
-pub value_on : (l : List ℕ) (at n : ℕ) → at + n < length l
-    → value n 0 (drop at l) * 10 + (get_or l (at + n) 0 - 48) ≡ value (n + 1) 0 (drop at l)
-value_on l at n h =
-    let e = value_last n 0 (drop at l) (omega (arith, length-drop at l)) in
-    let d = ap (λ (b : ℕ). value n 0 (drop at l) * 10 + (b - 48)) (get_or-drop at l n 0) in
-    rw (add-one n) (sym (e ∙ d))
+pub value_on : (n : ℕ) (bs : List ℕ) → n < length bs → value n 0 bs * 10 + (get_or bs n 0 - 48) ≡ value (n + 1) 0 bs
+value_on n bs h = rw (add-one n) (sym (value_last n 0 bs h))
 
 value_bound : (c n : ℕ) (bs : List ℕ) → c ≤ digit_count bs → value c n bs < suc n * 10 ^ c
 unfolding value digit_count

@@ -1,48 +1,40 @@
 -- A word at a place of a line. Assumes nothing.
-use Prim.Native.Nat.{ℕ, suc, ◌+◌, ◌<◌, ◌≤◌}
+use Prim.Native.Nat.{ℕ, ◌+◌, ◌≤◌}
 use mathlib.Core.Path.{◌≡◌, refl, ap, sym, ◌∙◌}
-use mathlib.Core.Bool.{Bool, true, false, cond, true≢false}
-use mathlib.Core.Option.{Option, none, some}
+use mathlib.Core.Bool.{Bool, true, false, cond, ◌&&◌, true≢false}
+use mathlib.Core.Option.{none, some}
+use mathlib.Core.Option as option
+use Rattle.std.specs.Prelude.{Option, Some, None}
 use mathlib.Core.List.{List, [], ◌∷◌}
 use native.Mathlib.Omega.{arith}
-use borrow.Author.Tests.{eq-eqb, ne_eqb}
-use lib.Dec.{eqb}
-use lib.ListN.{length, get_or, drop, drop_of_length-le, length-drop}
-use lib.Seq.{drop-cons}
+use borrow.Author.Tests.{eq-eqb, ne_eqb, eqb-true, eqb-false}
+use lib.Dec.{eqb, eqb-zero-suc, eqb-suc-suc}
+use lib.ListN.{length, take, drop, length-drop}
+use Rattle.std.specs.Cmp.Lexicographic.{pointwise}
 use Rattle.paper.specs.Text.{past}
 use Rattle.rows.proofs.Rest.{by_test}
-use Rattle.text_pieces.specs.Pieces.{is_some, starts}
+use Rattle.text_pieces.specs.Pieces.{is_some, starts, past_word, ends_at}
 
--- what is left of a word at i, against what is left of a line at k
-module _ (w l : List ℕ) (i k : ℕ) where
-  pub word_all : length w ≤ i → past (drop i w) (drop k l) ≡ some (drop k l)
-  unfolding past
-  word_all h = ap (λ (x : List ℕ). past x (drop k l)) (drop_of_length-le w h)
+-- the test of std, on the front
+pub starts_is : (w bs : List ℕ) → pointwise eqb w (take (length w) bs) ≡ starts w bs
+unfolding starts past
+starts_is [] bs = refl
+starts_is (w ∷ ws) [] = refl
+starts_is (w ∷ ws) (b ∷ bs) = by_test (eqb w b) (λ e. rw e (starts_is ws bs)) (λ e. rw e)
 
-  module _ (h : i < length w) where
-    pub word_short : length l ≤ k → past (drop i w) (drop k l) ≡ none
-    unfolding past
-    word_short g = rw (drop-cons w i 0 h, drop_of_length-le l g)
+and_false : (a : Bool) → (a && false) ≡ false
+and_false true = refl
+and_false false = refl
 
-    module _ (g : k < length l) where
-      word_here : past (drop i w) (drop k l) ≡ cond (eqb (get_or w i 0) (get_or l k 0))
-          (past (drop (suc i) w) (drop (suc k) l)) none
-      unfolding past
-      word_here = rw (drop-cons w i 0 h, drop-cons l k 0 g)
-
-      pub word_next : get_or w i 0 ≡ get_or l k 0 → past (drop i w) (drop k l) ≡ past (drop (suc i) w) (drop (suc k) l)
-      word_next e = word_here ∙ rw (eq-eqb (get_or w i 0) (get_or l k 0) e)
-
-      pub word_differs : (get_or w i 0 ≡ get_or l k 0 → ⊥) → past (drop i w) (drop k l) ≡ none
-      word_differs e = word_here ∙ rw (ne_eqb (get_or w i 0) (get_or l k 0) e)
-
-pub starts_not : (w bs : List ℕ) → past w bs ≡ none → false ≡ starts w bs
-unfolding starts
-starts_not w bs e = sym (ap is_some e)
-
-pub starts_so : (w bs : List ℕ) (r : List ℕ) → past w bs ≡ some r → true ≡ starts w bs
-unfolding starts
-starts_so w bs r e = sym (ap is_some e)
+-- a word that is all of the rest
+whole_is : (w bs : List ℕ) → pointwise eqb bs w ≡ (starts w bs && eqb (length w) (length bs))
+unfolding starts past
+whole_is [] [] = refl
+whole_is [] (b ∷ bs) = sym (eqb-zero-suc (length bs))
+whole_is (w ∷ ws) [] = refl
+whole_is (w ∷ ws) (b ∷ bs) = by_test (eqb w b)
+    (λ e. let f : eqb b w ≡ true = eq-eqb b w (sym (eqb-true w b e)) in rw (e, f, eqb-suc-suc (length ws) (length bs)) (whole_is ws bs))
+    (λ e. let f : eqb b w ≡ false = ne_eqb b w (λ h. eqb-false w b e (sym h)) in rw (e, f))
 
 past_on : (w b : ℕ) (ws bs : List ℕ) → eqb w b ≡ true → past (w ∷ ws) (b ∷ bs) ≡ past ws bs
 unfolding past
@@ -58,7 +50,7 @@ unfolding past starts
 past_starts [] bs = refl
 past_starts (w ∷ ws) [] = refl
 past_starts (w ∷ ws) (b ∷ bs) =
-    let after : Option (List ℕ) → Option (List ℕ) = λ o. cond (is_some o) (some (drop (length ws) bs)) none in
+    let after : option.Option (List ℕ) → option.Option (List ℕ) = λ o. cond (is_some o) (some (drop (length ws) bs)) none in
     by_test (eqb w b)
     (λ e. past_on w b ws bs e ∙ past_starts ws bs ∙ ap after (sym (past_on w b ws bs e)))
     (λ e. past_off w b ws bs e ∙ ap after (sym (past_off w b ws bs e)))
@@ -73,3 +65,34 @@ starts_length (w ∷ ws) (b ∷ bs) e = by_test (eqb w b)
 
 pub starts_within : (w l : List ℕ) (at : ℕ) → at ≤ length l → starts w (drop at l) ≡ true → at + length w ≤ length l
 starts_within w l at h e = omega (arith, starts_length w (drop at l) e, length-drop at l)
+
+pub ends_is : (w l : List ℕ) (at : ℕ) → at ≤ length l → pointwise eqb (drop at l) w ≡ ends_at l at w
+unfolding ends_at
+ends_is w l at h =
+    whole_is w (drop at l)
+    ∙ ap (λ (b : Bool). starts w (drop at l) && b)
+    (by_test (eqb (length w) (length (drop at l)))
+    (λ e. e ∙ sym (eq-eqb (at + length w) (length l) (omega (arith, eqb-true _ _ e, length-drop at l))))
+    (λ e.
+    let d = eqb-false _ _ e in
+    e ∙ sym (ne_eqb (at + length w) (length l) (λ g. d (omega (arith, g, length-drop at l))))))
+
+-- where a word was found
+pub past_found : (w l : List ℕ) (at n : ℕ) → at ≤ length l → past_word l at w ≡ Some n →
+    (starts w (drop at l) ≡ true) × (n ≡ at + length w) × (n ≤ length l)
+unfolding past_word
+past_found w l at n h e = by_test (starts w (drop at l))
+    (λ f.
+    let g : ◌≡◌ {A = Option ℕ} (Some (at + length w)) (Some n) = rw f at e in
+    let k : at + length w ≡ n = cc in
+    (f, sym k, rw (← k) (starts_within w l at h f)))
+    (λ f. let g : ◌≡◌ {A = Option ℕ} None (Some n) = rw f at e in let z : ◌≡◌ {A = ℕ} 0 1 = cc in absurd (omega arith))
+
+pub past_missed : (w l : List ℕ) (at : ℕ) → past_word l at w ≡ None → starts w (drop at l) ≡ false
+unfolding past_word
+past_missed w l at e = by_test (starts w (drop at l))
+    (λ f.
+    let g : ◌≡◌ {A = Option ℕ} (Some (at + length w)) None = rw f at e in
+    let z : ◌≡◌ {A = ℕ} 0 1 = cc in
+    absurd (omega arith))
+    (λ f. f)

@@ -1,119 +1,92 @@
 // Text in: words and numbers, each at a place of a line.
 #![tactic(auto)]
 
-ghost use Rattle.std.specs.Prelude.{◌≡◌, ◌+◌, ◌<◌, ◌≤◌, length, drop};
-ghost use Rattle.text_pieces.specs.Pieces.{starts, Counts, number_at, production_at, field_at, last_at, ends_at};
+ghost use Rattle.std.specs.Prelude.{◌≡◌, ◌<◌, ◌≤◌, length, IfSome};
+ghost use Rattle.text_pieces.specs.Pieces.{past_word, Counts, number_at, production_at, field_at, last_at, ends_at};
 
-// A number and the place after it, or no number in form.
-#[derive(Clone, Copy)]
-pub enum Number {
-    Is(usize, usize),
-    Bad,
-}
-
-// Whether a word stands at a place.
-fn word_at(line: &[u8], at: usize, word: &[u8]) -> bool
+// The place after a word that stands at a place.
+fn past_word(line: &[u8], at: usize, word: &[u8]) -> Option<usize>
     requires { at ≤ length line.now }
-    ensures { result ≡ starts word.now (drop at line.now) }
+    ensures { result ≡ past_word line.now at word.now }
 {
-    let mut i = 0;
-    while i < word.len() {
-        if line.len() <= at + i {
-            return false;
-        }
-        if word[i] != line[at + i] {
-            return false;
-        }
-        i += 1;
+    if line[at..].starts_with(word) {
+        Some(at + word.len())
+    } else {
+        None
     }
-    true
 }
 
-// The digits at a place: how many they are and their number; six or more are not told apart.
-#[derive(Clone, Copy)]
+// The most digits of a number in form.
+const MOST: usize = 5;
+
+// How many digits there are and their number; six or more are not told apart.
+#[derive(Clone, Copy, Debug, PartialEq, Eq)]
 struct Counted {
     count: usize,
     value: usize,
 }
 
-fn digits(line: &[u8], at: usize) -> Counted
-    requires { at ≤ length line.now }
-    ensures { Counts line.now at result.count result.value }
+// The digits at the front.
+fn digits(bytes: &[u8]) -> Counted
+    ensures { Counts bytes.now result.count result.value }
 {
-    let mut n = 0;
-    let mut v = 0;
-    while at + n < line.len() {
-        let b = line[at + n];
-        if b < 48 {
-            return Counted { count: n, value: v };
+    let mut value = 0;
+    for (count, b) in bytes.iter().enumerate() {
+        if !b.is_ascii_digit() || MOST < count {
+            return Counted { count, value };
         }
-        if 57 < b {
-            return Counted { count: n, value: v };
-        }
-        if 5 < n {
-            return Counted { count: n, value: v };
-        }
-        v = v * 10 + (b - 48) as usize;
-        n += 1;
+        value = value * 10 + usize::from(*b - b'0');
     }
-    Counted { count: n, value: v }
+    Counted {
+        count: bytes.len(),
+        value,
+    }
 }
 
-// The number at a place: 1 to 5 digits without leading zero.
-fn number_at(line: &[u8], at: usize) -> Number
+// The number at a place, 1 to 5 digits without leading zero, and the place after it.
+fn number_at(line: &[u8], at: usize) -> Option<(usize, usize)>
     requires { at ≤ length line.now }
     ensures { result ≡ number_at line.now at }
 {
-    let d = digits(line, at);
-    let count = d.count;
-    if count < 1 {
-        return Number::Bad;
+    let rest = &line[at..];
+    let Counted { count, value } = digits(rest);
+    if count < 1 || MOST < count {
+        return None;
     }
-    if 5 < count {
-        return Number::Bad;
+    if count != 1 && rest[0] == b'0' {
+        return None;
     }
-    if count != 1 {
-        if line[at] == 48 {
-            return Number::Bad;
-        }
-    }
-    Number::Is(d.value, at + count)
+    Some((value, at + count))
 }
 
-// The production at a place, by its code.
-fn production_at(line: &[u8], at: usize) -> Number
+// The production at a place, -1 or a number, and the place after it.
+fn production_at(line: &[u8], at: usize) -> Option<(i32, usize)>
     requires { at ≤ length line.now }
     ensures { result ≡ production_at line.now at }
 {
-    if word_at(line, at, b"-1") {
-        return Number::Is(0, at + 2);
+    if let Some(next) = past_word(line, at, b"-1") {
+        return Some((-1, next));
     }
-    let Number::Is(n, next) = number_at(line, at) else {
-        return Number::Bad;
-    };
-    Number::Is(n + 1, next)
+    let (value, next) = number_at(line, at)?;
+    Some((value as i32, next))
 }
 
 // The number after a word.
-pub fn field_at(line: &[u8], at: usize, word: &[u8]) -> Number
+pub fn field_at(line: &[u8], at: usize, word: &[u8]) -> Option<(usize, usize)>
     requires { at ≤ length line.now }
-    ensures { result ≡ field_at line.now at word.now }
+    ensures value { result ≡ field_at line.now at word.now }
+    ensures within { IfSome result (λ p. (p.0 < 100000) × (p.1 ≤ length line.now)) }
 {
-    if !word_at(line, at, word) {
-        return Number::Bad;
-    }
-    number_at(line, at + word.len())
+    number_at(line, past_word(line, at, word)?)
 }
 
 // The production after a word.
-pub fn last_at(line: &[u8], at: usize, word: &[u8]) -> Number
+pub fn last_at(line: &[u8], at: usize, word: &[u8]) -> Option<(i32, usize)>
     requires { at ≤ length line.now }
-    ensures { result ≡ last_at line.now at word.now }
+    ensures value { result ≡ last_at line.now at word.now }
+    ensures within { IfSome result (λ p. p.1 ≤ length line.now) }
 {
-    if !word_at(line, at, word) {
-        return Number::Bad;
-    }
-    production_at(line, at + word.len())
+    production_at(line, past_word(line, at, word)?)
 }
 
 // Whether a word stands at a place and ends the line.
@@ -121,8 +94,5 @@ pub fn ends_at(line: &[u8], at: usize, word: &[u8]) -> bool
     requires { at ≤ length line.now }
     ensures { result ≡ ends_at line.now at word.now }
 {
-    if !word_at(line, at, word) {
-        return false;
-    }
-    at + word.len() == line.len()
+    &line[at..] == word
 }

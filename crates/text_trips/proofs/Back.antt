@@ -16,7 +16,7 @@ use Rattle.paper.specs.Text.{lines, read_lines, text_in, text_out}
 use Rattle.rows.proofs.Rest.{length_rows}
 use Rattle.text_laws.proofs.Kept.{production_kept, numbers_kept}
 use Rattle.laws.proofs.Refusals.{refuse_accept}
-use Rattle.row_checks.proofs.Judged.{done, next_check}
+use Rattle.row_checks.proofs.Judged.{done, next_passes}
 use Rattle.text_out.proofs.Out.{out_text, in_range}
 use Rattle.text_trips.proofs.Joined.{text_back}
 
@@ -72,5 +72,5 @@ read_is_written t room tb wide e h =
     let few : length (rows_in ns) ≤ 4096 = rw r.is_table at c.few in
     let slice = whole_slice ns r.count r.fours (omega (arith, r.fours, length_rows ns)) in
     let risen = rw r.is_table at c.ordered in
-    let out = out_text r.prod0 r.k ns wide slice h (next_check ranged (next_check risen done)) in
+    let out = out_text r.prod0 r.k ns wide slice h (next_passes ranged (next_passes risen done)) in
     rw (r.is_table, p, n) (out ∙ ap accept r.is_text)

@@ -2,6 +2,8 @@
 use Prim.Native.Nat.{ℕ, ◌+◌, ◌*◌}
 use mathlib.Core.Path.{◌≡◌, refl, ap, sym, ◌∙◌}
 use mathlib.Core.Bool.{Bool, true, false, cond}
+use Rattle.std.specs.Prelude.{Some, None}
+use Rattle.std.specs.Prelude as prelude
 use mathlib.Core.Option.{Option, none, some}
 use mathlib.Core.List.{List, [], ◌∷◌, ◌++◌}
 use native.Mathlib.Omega.{arith}
@@ -9,7 +11,7 @@ use borrow.Author.Tests.{eqb-true}
 use lib.Dec.{eqb}
 use lib.ListN.{length, get_or}
 use lib.IntN.{ℤ, pos}
-use Rattle.paper.specs.Rows.{Table, table, natural, signed}
+use Rattle.paper.specs.Rows.{Table, table, natural}
 use Rattle.paper.specs.Answers.{Ruling, accept, refuse, then}
 use Rattle.paper.specs.Text.{
   Line,
@@ -26,10 +28,8 @@ use Rattle.paper.specs.Text.{
   row_lines,
   text,
 }
-use Rattle.rows.specs.Places.{uncoded}
 use Rattle.rows.proofs.Rest.{by_test}
 use Rattle.text_lines.specs.declared.reading.HeadLine.{HeadLine}
-use Rattle.text_lines.specs.declared.reading.HeadLine.TheVariants as head_line
 use Rattle.text_lines.specs.Reading.{head_of}
 use Rattle.laws.proofs.Tests.{never}
 use Rattle.laws.proofs.Refusals.{refuse_accept}
@@ -119,11 +119,11 @@ record Two (h : List ℤ) : Type 0 where
 two : (l : List ℕ) (h : List ℤ) → read head_form l ≡ some h → Two h
 two l h e = go (head_of l 0) (head_is_read l 0 ∙ e)
   where
-    go : (x : HeadLine) → head_told x ≡ some h → Two h
-    go (head_line.Head p k n) q =
-        let w : signed (uncoded p) ∷ pos k ∷ [] ≡ h = cc in
-        record { prod0 = signed (uncoded p); k = k; all = sym w }
-    go head_line.Bad q = absurd (never q)
+    go : (x : prelude.Option HeadLine) → head_told x ≡ some h → Two h
+    go (Some l) q =
+        let w : l.prod0 ∷ pos l.k ∷ [] ≡ h = cc in
+        record { prod0 = l.prod0; k = l.k; all = sym w }
+    go None q = absurd (never q)
 
 lines_back : (ls : List Line) (tb : Table) → read_lines ls ≡ accept tb → Read_from (join ls) tb
 unfolding read_lines text

@@ -7,12 +7,11 @@ use lib.ListN.{length, take, drop, length-append}
 use lib.Seq.{take_at}
 use lib.IntN.{ℤ}
 use Rattle.paper.specs.Rows.{Table, table, rows_in, numbers, signed}
-use Rattle.paper.specs.Answers.{Ruling, accept, refuse, Title, heard, Reads, Writes}
+use Rattle.std.specs.Prelude.{Result, Ok, Err}
+use Rattle.paper.specs.Answers.{Ruling, accept, refuse, stated, Reads, Writes}
 use Rattle.paper.specs.Text.{text_in, text_out}
-use Rattle.paper.specs.declared.Reading.{Reading}
-use Rattle.paper.specs.declared.Reading.TheVariants as reading
-use Rattle.paper.specs.declared.Writing.{Writing}
-use Rattle.paper.specs.declared.Writing.TheVariants as writing
+use Rattle.paper.specs.declared.Title.{Title}
+use Rattle.paper.specs.declared.Refusal.{Refusal}
 use Rattle.laws.proofs.RowNumbers.{length_numbers}
 use Rattle.rows.proofs.Rest.{length_rows}
 use Rattle.laws.proofs.Refusals.{refuse_accept}
@@ -26,7 +25,7 @@ record Text (ruling : Ruling (List ℕ)) (n : ℕ) (old new : List ℕ) : Type 0
   size : length text ≡ n
   front : take n new ≡ text
 
-of_text : (ruling : Ruling (List ℕ)) (n : ℕ) (old new : List ℕ) → Writes ruling (writing.Wrote n) old new →
+of_text : (ruling : Ruling (List ℕ)) (n : ℕ) (old new : List ℕ) → Writes ruling (Ok n) old new →
     Text ruling n old new
 of_text (accept t) n old new w =
     let s : length t ≡ n = let q = w.says in cc in
@@ -42,20 +41,18 @@ same_title : (x y : Title) → accept x ≡ accept y → x ≡ y
 same_title x y e = cc
 
 -- the answer that states a title
-titled : (answer : Reading) (x : Title) → heard answer ≡ accept x → answer ≡ reading.Read x.prod0 x.k x.rows
-titled (reading.Read p k n) x e =
-    ap (λ (y : Title). reading.Read y.prod0 y.k y.rows)
-    (same_title (record { prod0 = p; k = k; rows = n }) x e)
-titled (reading.Refused r) x e = refuse_accept e
+titled : (answer : Result Title Refusal) (x : Title) → stated answer ≡ accept x → answer ≡ Ok x
+titled (Ok y) x e = ap Ok (same_title y x e)
+titled (Err r) x e = refuse_accept e
 
 -- Reading what was written: the answer has the same prod0 and k, and the output begins with the same numbers.
-pub record GivenBack (p : ℤ) (k : ℕ) (ns : List ℤ) (answer : Reading) (before after : List ℤ) : Type 0 where
-  pub says : answer ≡ reading.Read p k (length ns / 4)
+pub record GivenBack (p : ℤ) (k : ℕ) (ns : List ℤ) (answer : Result Title Refusal) (before after : List ℤ) : Type 0 where
+  pub says : answer ≡ Ok (record { prod0 = p; k = k; rows = length ns / 4 })
   pub holds : after ≡ ns ++ drop (length ns) before
 
-pub written_then_read : (p : ℤ) (k : ℕ) (ns : List ℤ) (n : ℕ) (old new : List ℕ) (answer : Reading)
+pub written_then_read : (p : ℤ) (k : ℕ) (ns : List ℤ) (n : ℕ) (old new : List ℕ) (answer : Result Title Refusal)
     (before after : List ℤ) →
-    Writes (text_out p k ns (length old)) (writing.Wrote n) old new →
+    Writes (text_out p k ns (length old)) (Ok n) old new →
     Reads (text_in (take n new) (length before)) answer before after → 16384 ≤ length before →
     GivenBack p k ns answer before after
 written_then_read p k ns n old new answer before after w r h =
@@ -66,8 +63,8 @@ written_then_read p k ns n old new answer before after w r h =
     let (same, all) = written_as_given p k ns (length old) t.text t.ruled in
     record {
       says = titled answer _ d.says
-          ∙ ap (λ (z : ℤ). reading.Read z k (length (rows_in ns))) same
-          ∙ ap (λ (z : ℕ). reading.Read p k z) (length_rows ns);
+          ∙ ap (λ (z : ℤ). Ok (record { prod0 = z; k = k; rows = length (rows_in ns) })) same
+          ∙ ap (λ (z : ℕ). Ok (record { prod0 = p; k = k; rows = z })) (length_rows ns);
       holds = d.holds ∙ ap (λ (l : List ℤ). l ++ drop (length l) before) all;
     }
 
@@ -81,7 +78,7 @@ pub record Rows (ruling : Ruling Table) (p : ℤ) (k m : ℕ) (old new : List �
   pub room : m * 4 ≤ length new
   pub front : take (m * 4) new ≡ numbers table.rows
 
-pub of_rows : (ruling : Ruling Table) (p : ℤ) (k m : ℕ) (old new : List ℤ) → Reads ruling (reading.Read p k m) old new →
+pub of_rows : (ruling : Ruling Table) (p : ℤ) (k m : ℕ) (old new : List ℤ) → Reads ruling (Ok (record { prod0 = p; k = k; rows = m })) old new →
     Rows ruling p k m old new
 of_rows (accept tb) p k m old new r =
     let given : Title = record { prod0 = p; k = k; rows = m } in
@@ -102,8 +99,8 @@ of_rows (accept tb) p k m old new r =
 of_rows (refuse n d) p k m old new r = refuse_accept (sym r.says)
 
 -- Writing what was read: the same bytes.
-pub read_then_written : (t : List ℕ) (p : ℤ) (k m : ℕ) (old new : List ℤ) (answer : Writing) (before after : List ℕ) →
-    Reads (text_in t (length old)) (reading.Read p k m) old new →
+pub read_then_written : (t : List ℕ) (p : ℤ) (k m : ℕ) (old new : List ℤ) (answer : Result ℕ Refusal) (before after : List ℕ) →
+    Reads (text_in t (length old)) (Ok (record { prod0 = p; k = k; rows = m })) old new →
     Writes (text_out p k (take (m * 4) new) (length before)) answer before after → 262144 ≤ length before →
     Writes (accept t) answer before after
 read_then_written t p k m old new answer before after r w h =

@@ -1,84 +1,56 @@
--- `text_pieces::digits` meets its contract. The loop's invariant: the digits passed and those from there on are all of
--- them, and the number so far is that of the digits passed. Assumes nothing.
-use Prim.Native.Nat.{ℕ, suc, ◌+◌, ◌-◌, ◌*◌}
-use mathlib.Core.Path.{◌≡◌, refl, ap, ◌∙◌}
-use native.Mathlib.Omega.{arith}
-use native.Mathlib.Nat.{add-zero}
-use lib.ListN.{get_or, drop}
-use Rattle.paper.specs.Text.{value}
-use Rattle.text_pieces.proofs.Numbers.{digits_end, digits_next, digits_low, digits_high, value_on, value_small}
+-- `text_pieces::digits` meets its contract. At the end of the digits, and a digit more. Assumes nothing.
+use Rattle.std.proofs.Common.{suc, ◌+◌, ◌≡◌, refl, sym, ◌∙◌, arith, length, drop}
+use Rattle.paper.specs.Text.{value, digit_count}
+use Rattle.text_pieces.specs.Pieces.{Counts}
+use Rattle.text_pieces.proofs.Numbers.{digits_end, digits_next, digits_stop, value_on, value_small}
 use Rattle.text_pieces.proofs.digits.Goals as goal
+use Rattle.text_pieces.proofs.digits.Goals.{then-not-is_ascii_digit-via-then-not-is_ascii_digit, then-not-is_ascii_digit-via-else-not-is_ascii_digit+then-count-gt-MOST}
 
-pub loop-n-init : goal.loop-n-init
+pub loop-count-init : goal.loop-count-init
 unfolding value
-loop-n-init c = (omega arith, rw (add-zero c.args.at) (omega arith), refl, omega arith)
+loop-count-init c = (omega arith, refl, omega arith)
 
-pub overflow_add-at : goal.overflow_add-at
-overflow_add-at c = omega arith
+pub returns-then-not-is_ascii_digit : goal.returns-then-not-is_ascii_digit
+returns-then-not-is_ascii_digit c =
+    let bs = c.args.bytes.now in
+    let n = c.loop-count.count in
+    let ended : digit_count (drop n bs) ≡ 0 → Counts bs n c.loop-count.value = λ (e : digit_count (drop n bs) ≡ 0).
+    record { inside = omega arith; made = c.loop-count.invariant.1; least = omega arith; all = λ h. omega arith } in
+    elim c.then-not-is_ascii_digit.branch [
+      | then-not-is_ascii_digit-via-then-not-is_ascii_digit w ↦ ended (digits_stop bs n (omega arith) (sym c.is_ascii_digit.ensures.value ∙ w.if-not-is_ascii_digit.true))
+      | then-not-is_ascii_digit-via-else-not-is_ascii_digit+then-count-gt-MOST w ↦ record {
+        inside = omega arith;
+        made = c.loop-count.invariant.1;
+        least = omega arith;
+        all = λ h. absurd (omega (arith, h, w.if-count-gt-MOST.true));
+      }
+    ]
 
-pub overflow_add-b : goal.overflow_add-b
-overflow_add-b c = omega arith
+pub overflow_mul-value : goal.overflow_mul-value
+overflow_mul-value c = omega (arith, value_small c.loop-count.count c.args.bytes.now (omega arith) (omega arith))
 
-pub bounds-line-at : goal.bounds-line-at
-bounds-line-at c = omega arith
+pub overflow_add-value : goal.overflow_add-value
+overflow_add-value c = omega (arith, value_small c.loop-count.count c.args.bytes.now (omega arith) (omega arith))
 
-pub returns-then-b-lt48 : goal.returns-then-b-lt48
-returns-then-b-lt48 c =
-    let a = c.args in
-    let e = digits_low a.line.now (a.at + c.loop-n.n) (omega arith) c.if-b-lt48.true in
-    record { inside = omega arith; made = c.loop-n.invariant.2; least = omega arith; all = λ h. omega arith }
-
-pub returns-then-b-gt57 : goal.returns-then-b-gt57
-returns-then-b-gt57 c =
-    let a = c.args in
-    let e = digits_high a.line.now (a.at + c.loop-n.n) (omega arith) c.if-b-gt57.true in
-    record { inside = omega arith; made = c.loop-n.invariant.2; least = omega arith; all = λ h. omega arith }
-
-pub returns-then-n-gt5 : goal.returns-then-n-gt5
-returns-then-n-gt5 c =
-    record {
-      inside = omega arith;
-      made = c.loop-n.invariant.2;
-      least = omega arith;
-      all = λ h. absurd (omega (arith, h, c.if-n-gt5.true));
-    }
-
-pub overflow_mul-v : goal.overflow_mul-v
-overflow_mul-v c =
-    let a = c.args in
-    let s = value_small c.loop-n.n (drop a.at a.line.now) (omega arith) (omega arith) in
-    omega (arith, c.loop-n.invariant.2)
-
-pub overflow_cast-v : goal.overflow_cast-v
-overflow_cast-v c = omega (arith, c.if-b-gt57.false)
-
-pub overflow_add-v : goal.overflow_add-v
-overflow_add-v c =
-    let a = c.args in
-    let s = value_small c.loop-n.n (drop a.at a.line.now) (omega arith) (omega arith) in
-    omega (arith, c.loop-n.invariant.2, c.if-b-gt57.false)
-
-pub overflow_add-n : goal.overflow_add-n
-overflow_add-n c = omega arith
-
-pub loop-n-smaller : goal.loop-n-smaller
-loop-n-smaller c = omega arith
-
-pub loop-n-preserved : goal.loop-n-preserved
-loop-n-preserved c =
-    let a = c.args in
-    let k = a.at + c.loop-n.n in
-    let s : a.at + (c.loop-n.n + 1) ≡ suc k = omega arith in
-    let e = digits_next a.line.now k (omega arith) c.if-b-lt48.false c.if-b-gt57.false in (
-      omega arith,
+pub loop-count-preserved : goal.loop-count-preserved
+loop-count-preserved c =
+    let bs = c.args.bytes.now in
+    let n = c.loop-count.count in
+    let e = digits_next bs n (omega arith) (sym c.is_ascii_digit.ensures.value ∙ c.if-not-is_ascii_digit.false) in
+    let s : n + 1 ≡ suc n = omega arith in (
       rw s (omega arith),
-      ap (λ (x : ℕ). x * 10 + (get_or a.line.now k 0 - 48)) c.loop-n.invariant.2
-          ∙ value_on a.line.now a.at c.loop-n.n (omega arith),
+      rw (c.from.ensures, c.loop-count.invariant.1) (value_on n bs (omega arith)),
       omega arith,
     )
 
 pub returns : goal.returns
 returns c =
-    let a = c.args in
-    let e = digits_end a.line.now (a.at + c.loop-n.n) c.loop-n-test.false in
-    record { inside = omega arith; made = c.loop-n.invariant.2; least = omega arith; all = λ h. omega arith }
+    let bs = c.args.bytes.now in
+    let e = digits_end bs c.loop-count.count c.loop-count-test.false in
+    let n : c.loop-count.count ≡ length bs = omega arith in
+    record {
+      inside = omega arith;
+      made = rw (← n) c.loop-count.invariant.1;
+      least = omega arith;
+      all = λ h. omega arith;
+    }

@@ -1,24 +1,25 @@
--- `text_pieces::last_at` meets its contract. A word, then a production. Assumes nothing.
-use mathlib.Core.Path.{sym, ◌∙◌}
-use Rattle.text_pieces.proofs.Starts.{starts_within}
-use Rattle.text_pieces.proofs.Forms.{last_not, last_so}
+-- `text_pieces::last_at` meets its contract. What follows the word, or no word. Assumes nothing.
+use Rattle.std.proofs.Common.{sym, ◌∙◌, ◌≡◌}
+use Rattle.text_pieces.specs.Pieces.{last_at}
+use Rattle.text_pieces.proofs.Starts.{past_found, past_missed}
+use Rattle.text_pieces.proofs.Forms.{last_known}
 use Rattle.text_pieces.proofs.last_at.Goals as goal
 
-pub returns-then-not-word_at : goal.returns-then-not-word_at
-returns-then-not-word_at c =
+pub returns-in_err-past_word-clause-value : goal.returns-in_err-past_word-clause-value
+unfolding last_at
+returns-in_err-past_word-clause-value c =
     let a = c.args in
-    last_not a.line.now a.at a.word.now
-    (sym c.word_at.ensures ∙ c.if-not-word_at.true)
+    rw (past_missed a.word.now a.line.now a.at (sym c.past_word.ensures ∙ c.in_err-past_word.was)) c.from_residual.ensures
 
 pub production_at-requires : goal.production_at-requires
 production_at-requires c =
     let a = c.args in
-    starts_within a.word.now a.line.now a.at c.requires
-    (sym c.word_at.ensures ∙ c.if-not-word_at.false)
+    (past_found a.word.now a.line.now a.at _ c.requires (sym c.past_word.ensures ∙ c.in_ok-past_word.was)).2
 
 pub returns : goal.returns
+unfolding last_at
 returns c =
     let a = c.args in
-    c.production_at.ensures
-    ∙ last_so a.line.now a.at a.word.now
-    (sym c.word_at.ensures ∙ c.if-not-word_at.false)
+    let found = past_found a.word.now a.line.now a.at _ c.requires (sym c.past_word.ensures ∙ c.in_ok-past_word.was) in
+    let e : c.production_at.result ≡ last_at a.line.now a.at a.word.now = rw (last_at, found.0, ← found.1) c.production_at.ensures in
+    record { value = e; within = last_known a.line.now a.at a.word.now c.requires _ e }

@@ -1,87 +1,66 @@
--- `text_in::passes::fill` meets its contract. The loop's invariant: the rows from the place on are ready, and written
--- they make the output asked for. Assumes nothing.
-use Prim.Native.Nat.{◌+◌, ◌-◌, ◌≤◌}
-use mathlib.Core.Path.{◌≡◌, refl, ap, sym, ◌∙◌}
-use native.Mathlib.Omega.{arith}
-use lib.ListN.{length}
-use Rattle.rows.proofs.Fits.{Fit, fit}
-use Rattle.text_lines.specs.declared.reading.RowLine.TheVariants.{Row}
-use Rattle.text_lines.specs.Reading.{row_from}
+-- `text_in::passes::fill` meets its contract. A row more, and all rows. Assumes nothing.
+use Rattle.std.proofs.Common.{◌≡◌, ◌∙◌, ◌+◌, ◌-◌, ◌≤◌, ◌<◌, ℤ, sym, ap, length, arith}
+use Rattle.paper.specs.Rows.{accepting, signed}
+use Rattle.rows.specs.Places.{code, given}
+use Rattle.rows.proofs.Fits.{fit}
+use Rattle.rows.proofs.Signed.{kept}
+use Rattle.text_laws.specs.Put.{put}
+use Rattle.text_laws.proofs.Kept.{production_kept}
 use Rattle.text_laws.proofs.Put.{put_nil, put_length, put_four}
-use Rattle.rows.proofs.Codes.{code_uncoded}
-use Rattle.text_lines.proofs.Small.{row_from_at}
-use Rattle.text_in.proofs.Filled.{no_bad, row_fit, row_room, next_ready, next_put, none_left}
+use Rattle.text_in.proofs.Parted.{line_numbers}
+use Rattle.text_in.proofs.Filled.{row_fit, row_room, next_ready, next_put, all_read}
 use Rattle.text_in.proofs.passes.fill.Goals as goal
 
-pub loop-place-init : goal.loop-place-init
-loop-place-init c =
-    let z : length c.args.out.now - 0 ≡ length c.args.out.now = omega arith in
-    (omega arith, omega arith, refl, rw z c.requires.1, refl)
-
-pub shape_of-out-in_default : goal.shape_of-out-in_default
-shape_of-out-in_default c = c.loop-place.invariant.2
-
-pub returns-in_default : goal.returns-in_default
-returns-in_default c =
-    let a = c.args in
-    no_bad a.text.now c.loop-place.place _ (omega arith) c.loop-place.invariant.3
-    (sym c.row_from.ensures ∙ c.in_default.is)
+pub accepting-production-requires : goal.accepting-production-requires
+accepting-production-requires c =
+    let p = c.loop-row in
+    let w = c.in-Some.row in
+    let read = sym c.row_from.ensures.value ∙ c.in-Some.is in
+    let here : p.place < length c.args.text.now = omega (arith, c.in-Some.ensures.within) in
+    let f = fit _ (row_fit c.args.text.now p.place _ here p.invariant.ready w read) in
+    let h : code (accepting w.production) ≤ 65536 = f.production in
+    rw (kept w.production h) h
 
 pub put_row-requires : goal.put_row-requires
 put_row-requires c =
-    let read : row_from c.args.text.now c.loop-place.place
-    ≡ Row c.in-Row.from c.in-Row.on c.in-Row.to c.in-Row.code c.in-Row.next = sym c.row_from.ensures ∙ c.in-Row.is in
-    let room : 4 ≤ length c.loop-place.out - c.loop-place.i = row_room _ _ _ (omega arith) c.loop-place.invariant.3 _ _ _ _ _ read in
-    let r = room in
-    let f : Fit _ = fit _ (row_fit _ _ _ (omega arith) c.loop-place.invariant.3 _ _ _ _ _ read) in (
-      omega arith,
-      omega (arith, f.from),
-      f.terminal,
-      omega (arith, f.to),
-      omega
-          (arith, f.production, code_uncoded c.in-Row.code),
-    )
+    let p = c.loop-row in
+    let w = c.in-Some.row in
+    let read = sym c.row_from.ensures.value ∙ c.in-Some.is in
+    let here : p.place < length c.args.text.now = omega (arith, c.in-Some.ensures.within) in
+    let f = fit _ (row_fit c.args.text.now p.place _ here p.invariant.ready w read) in
+    let r = row_room c.args.text.now p.place _ here p.invariant.ready w read in
+    (omega arith, omega (arith, f.from), f.terminal, omega (arith, f.to))
 
-pub overflow_add-i : goal.overflow_add-i
-overflow_add-i c =
-    let read : row_from c.args.text.now c.loop-place.place
-    ≡ Row c.in-Row.from c.in-Row.on c.in-Row.to c.in-Row.code c.in-Row.next = sym c.row_from.ensures ∙ c.in-Row.is in
-    let room : 4 ≤ length c.loop-place.out - c.loop-place.i = row_room _ _ _ (omega arith) c.loop-place.invariant.3 _ _ _ _ _ read in
-    omega (arith, room)
-
-pub loop-place-smaller : goal.loop-place-smaller
-loop-place-smaller c =
-    let read : row_from c.args.text.now c.loop-place.place
-    ≡ Row c.in-Row.from c.in-Row.on c.in-Row.to c.in-Row.code c.in-Row.next = sym c.row_from.ensures ∙ c.in-Row.is in
-    let h = row_from_at _ _ _ _ _ _ _ read in
-    omega (arith, h.later, h.inside)
-
-pub loop-place-preserved : goal.loop-place-preserved
-loop-place-preserved c =
-    let read : row_from c.args.text.now c.loop-place.place
-    ≡ Row c.in-Row.from c.in-Row.on c.in-Row.to c.in-Row.code c.in-Row.next = sym c.row_from.ensures ∙ c.in-Row.is in
-    let room : 4 ≤ length c.loop-place.out - c.loop-place.i = row_room _ _ _ (omega arith) c.loop-place.invariant.3 _ _ _ _ _ read in
-    let ready = c.loop-place.invariant.3 in
-    let e = read in
-    let h = row_from_at _ _ _ _ _ _ _ e in
-    let r = room in
-    let q = c.put_row.ensures ∙ put_four c.loop-place.out c.loop-place.i _ _ _ _ (omega arith) in
-    let n : length c.put_row.new.out ≡ length c.loop-place.out =
-    ap length q ∙ put_length c.loop-place.out c.loop-place.i _ (omega arith) in
-    let m : length c.loop-place.out - c.loop-place.i - 4 ≡ length c.put_row.new.out - (c.loop-place.i + 4) =
-    omega arith in (
-      h.inside,
-      omega arith,
-      omega arith,
-      rw (← m) (next_ready _ _ _ (omega arith) ready _ _ _ _ _ e),
-      next_put _ _ _ (omega arith) ready _ _ _ _ _ e c.loop-place.out _ c.loop-place.i (omega arith) q ∙ c.loop-place.invariant.4,
-    )
-
-pub shape_of-out : goal.shape_of-out
-shape_of-out c = c.loop-place.invariant.2
+pub loop-row-preserved : goal.loop-row-preserved
+loop-row-preserved c =
+    let p = c.loop-row in
+    let t = c.args.text.now in
+    let w = c.in-Some.row in
+    let ready = p.invariant.ready in
+    let read = sym c.row_from.ensures.value ∙ c.in-Some.is in
+    let here : p.place < length c.args.text.now = omega (arith, c.in-Some.ensures.within) in
+    let f = fit _ (row_fit t p.place _ here ready w read) in
+    let r = row_room t p.place _ here ready w read in
+    let h : code (accepting w.production) ≤ 65536 = f.production in
+    let same : signed (given c.accepting-production.result) ≡ w.production =
+    ap signed c.accepting-production.ensures
+    ∙ ap (λ (z : ℤ). signed (accepting z)) (kept w.production h)
+    ∙ production_kept w.production h in
+    let q : c.put_row.new.out ≡ put p.out p.i (line_numbers w) =
+    (rw same at c.put_row.ensures) ∙ put_four p.out p.i _ _ _ _ (omega arith) in
+    let n : length c.put_row.new.out ≡ length p.out = ap length q ∙ put_length p.out p.i _ (omega arith) in
+    let m : length p.out - p.i - 4 ≡ length c.put_row.new.out - (p.i + 4) = omega arith in
+    record {
+      inside = omega (arith, c.in-Some.ensures.within);
+      room = omega arith;
+      long = omega arith;
+      ready = rw (← m) (next_ready t p.place _ here ready w read);
+      holds = next_put t p.place _ here ready w read p.out _ p.i (omega arith) q ∙ p.invariant.holds;
+    }
 
 pub returns : goal.returns
 returns c =
-    let a = c.args in
-    let e = none_left a.text.now c.loop-place.place c.loop-place-test.false in
-    sym (put_nil c.loop-place.out c.loop-place.i) ∙ (rw e at c.loop-place.invariant.4)
+    let p = c.loop-row in
+    let none = sym c.row_from.ensures.value ∙ c.in_default.is in
+    let e = all_read c.args.text.now p.place _ p.invariant.ready none in
+    sym (put_nil p.out p.i) ∙ (rw e at p.invariant.holds)

@@ -7,13 +7,14 @@ use Rattle.text_laws.specs.Put.{put}
 use Rattle.text_in.specs.Tally.{numbers_from, Ready}
 use Rattle.text_in.proofs.passes.fill.Given as goal
 
-abbrev pub invariant-loop-place : goal.invariant-loop-place
-invariant-loop-place l =
-    (l.place ≤ length l.text)
-    × (l.i ≤ length l.out)
-    × (length l.out ≡ length l.initial.out)
-    × Ready l.text l.place (length l.out - l.i)
-    × (put l.out l.i (numbers_from l.text l.place) ≡ put l.initial.out 0 (numbers_from l.text l.at))
+abbrev pub invariant-loop-row : goal.invariant-loop-row
+invariant-loop-row l = record {
+  inside : l.place ≤ length l.text;
+  room : l.i ≤ length l.out;
+  long : length l.out ≡ length l.initial.out;
+  ready : Ready l.text l.place (length l.out - l.i);
+  holds : put l.out l.i (numbers_from l.text l.place) ≡ put l.initial.out 0 (numbers_from l.text l.at);
+}
 
-abbrev pub decreases-loop-place : goal.decreases-loop-place
-decreases-loop-place l = length l.text - l.place
+abbrev pub decreases-loop-row : goal.decreases-loop-row
+decreases-loop-row l = length l.text - l.place

@@ -6,8 +6,12 @@ use lib.ListN.{length}
 use Rattle.text_in.specs.Tally.{tally_from}
 use Rattle.text_in.proofs.passes.scan.Given as goal
 
-abbrev pub invariant-loop-place : goal.invariant-loop-place
-invariant-loop-place l = (l.place ≤ length l.text) × (l.tally.rows ≤ l.place) × (tally_from l.text l.at l.initial.tally ≡ tally_from l.text l.place l.tally)
+abbrev pub invariant-loop-row : goal.invariant-loop-row
+invariant-loop-row l = record {
+  inside : l.place ≤ length l.text;
+  few : l.tally.rows ≤ l.place;
+  holds : tally_from l.text l.at l.initial.tally ≡ tally_from l.text l.place l.tally;
+}
 
-abbrev pub decreases-loop-place : goal.decreases-loop-place
-decreases-loop-place l = length l.text - l.place
+abbrev pub decreases-loop-row : goal.decreases-loop-row
+decreases-loop-row l = length l.text - l.place
