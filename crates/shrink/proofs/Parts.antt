@@ -20,7 +20,7 @@ use Rattle.paper.specs.Rows.{Row, Table, accepting, signed, rows_in, table}
 use Rattle.paper.specs.Answers.{Ruling, accept, refuse, Made, Makes, number, detail}
 use Rattle.paper.specs.Checks.{row_slice, little_room, shape, split, ruled}
 use Rattle.paper.specs.Shrink.{production_of, rows_of, shrunk, shrink_table, shrink}
-use Rattle.rows.specs.Places.{code, uncoded}
+use Rattle.rows.specs.Places.{code}
 use Rattle.rows.specs.Passed.{Passed}
 use Rattle.row_checks.specs.Verdicts.{Judges, follow}
 use Rattle.row_checks.specs.declared.Verdict.{Verdict}
@@ -35,22 +35,12 @@ use Rattle.shrink_alike.specs.Faces.{coded, mark_in}
 use Rattle.shrink_classes.specs.Classes.{Classes}
 use Rattle.shrink_places.specs.Numbers.{Named}
 use Rattle.shrink_rows.specs.Output.{Written, all_rows, Shrunk, Sound}
-use Rattle.rows.proofs.Codes.{uncoded_code}
-use Rattle.shrink_classes.proofs.Entered.{state_small}
+use Rattle.shrink_alike.proofs.Bare.{shape_rows, split_rows}
+use Rattle.shrink_alike.proofs.Entered.{state_small}
 use Rattle.shrink_classes.proofs.Marking.{class_marks, class_state, class_source}
 use Rattle.shrink_rows.proofs.Writing.{written_front}
 
 -- ---- the checks look at rows alone
-
-pub shape_rows : (p q : Option ℕ) (k l : ℕ) (rs : List Row)
-    → shape (record { prod0 = p; k = k; rows = rs }) ≡ false → shape (record { prod0 = q; k = l; rows = rs }) ≡ false
-unfolding shape
-shape_rows p q k l rs e = e
-
-split_rows : (p q : Option ℕ) (k l : ℕ) (rs : List Row)
-    → split (record { prod0 = p; k = k; rows = rs }) ≡ false → split (record { prod0 = q; k = l; rows = rs }) ≡ false
-unfolding split
-split_rows p q k l rs e = e
 
 pub sound_passed : {p : ℤ} {k : ℕ} {ns : List ℤ} → Sound p k ns → Passed ns
 sound_passed {p} {k} {ns} s = ruled_rows p k ns (ruled_passed (table p k ns) s.checked)
@@ -58,18 +48,18 @@ sound_passed {p} {k} {ns} s = ruled_rows p k ns (ruled_passed (table p k ns) s.c
 pub sound_fitting : {p : ℤ} {k : ℕ} {ns : List ℤ} → Sound p k ns → Fitting ns
 sound_fitting s = fitting (sound_passed s) s.few
 
-pub sound_shape : {p : ℤ} {k : ℕ} {ns : List ℤ} → Sound p k ns → shape (coded 0 ns) ≡ false
+pub sound_shape : {p : ℤ} {k : ℕ} {ns : List ℤ} → Sound p k ns → shape (coded none ns) ≡ false
 sound_shape {p} {k} {ns} s =
     shape_rows (accepting p) none k 0 (rows_in ns) (ruled_passed (table p k ns) s.checked).shape
 
-pub sound_split : {p : ℤ} {k : ℕ} {ns : List ℤ} → Sound p k ns → split (coded 0 ns) ≡ false
+pub sound_split : {p : ℤ} {k : ℕ} {ns : List ℤ} → Sound p k ns → split (coded none ns) ≡ false
 sound_split {p} {k} {ns} s =
     split_rows (accepting p) none k 0 (rows_in ns) (ruled_passed (table p k ns) s.checked).split
 
 -- ---- classes and marks
 
-pub classes_named : (mode : Mode) (p0 : ℕ) (ns : List ℤ) (class : List ℕ) → Fitting ns
-    → Classes mode (coded p0 ns) class → Named (coded 0 ns) class
+pub classes_named : (mode : Mode) (p0 : Option ℕ) (ns : List ℤ) (class : List ℕ) → Fitting ns
+    → Classes mode (coded p0 ns) class → Named (coded none ns) class
 classes_named mode p0 ns class f k = record {
   small = λ s i. state_small ns f (mark_in class s) (class_state k s i);
   source = λ s i. class_source k s i;
@@ -128,26 +118,25 @@ signed_back (negsuc zero) l = refl
 signed_back (negsuc (suc n)) l = absurd (omega arith)
 
 module _ (mode : Mode) (p : ℤ) (k : ℕ) (ns : List ℤ) (sound : Sound p k ns) where
-  shrunk_as : (p0 : ℕ) → p0 ≡ code (accepting p) → (class : List ℕ) → Classes mode (coded p0 ns) class
+  shrunk_as : (p0 : Option ℕ) → p0 ≡ accepting p → (class : List ℕ) → Classes mode (coded p0 ns) class
       → shrunk mode (table p k ns) ≡ marked (mark_in class) (table p k ns)
   shrunk_as p0 e class c =
       let r = ruled_passed (table p k ns) sound.checked in
-      let q : uncoded p0 ≡ accepting p = ap uncoded e ∙ uncoded_code (accepting p) in
       let m : Marks mode (record { prod0 = accepting p; k = 0; rows = rows_in ns }) (mark_in class) =
-      subst (λ (x : Option ℕ). Marks mode (record { prod0 = x; k = 0; rows = rows_in ns }) (mark_in class)) q
+      subst (λ (x : Option ℕ). Marks mode (record { prod0 = x; k = 0; rows = rows_in ns }) (mark_in class)) e
       (class_marks c) in
       shrunk_by_marks mode (table p k ns) r.shape (mark_in class)
       (marks_k mode (accepting p) 0 k (rows_in ns) (mark_in class) m)
 
-  answered : (old new : List ℤ) (n s : ℕ) (mark : ℕ → ℕ) → Written old new 0 n (all_rows mark (coded 0 ns))
-      → s ≡ length (heads_of mark (coded 0 ns))
+  answered : (old new : List ℤ) (n s : ℕ) (mark : ℕ → ℕ) → Written old new 0 n (all_rows mark (coded none ns))
+      → s ≡ length (heads_of mark (coded none ns))
       → Makes (accept (marked mark (table p k ns))) (making.Made p k n s) old new
   unfolding marked
   answered old new n s mark w e =
       let r = ruled_passed (table p k ns) sound.checked in
-      let hs : List ℕ = heads_of mark (coded 0 ns) in
+      let hs : List ℕ = heads_of mark (coded none ns) in
       let b = bounded (table p k ns) r.range in
-      let q : all_rows mark (coded 0 ns) ≡ all_rows mark (table p k ns) =
+      let q : all_rows mark (coded none ns) ≡ all_rows mark (table p k ns) =
       rows_same none (accepting p) 0 k (rows_in ns) (sound_split sound) mark hs hs in
       let v : Written old new 0 n (all_rows mark (table p k ns)) = subst (Written old new 0 n) q w in
       let len : n ≡ length (all_rows mark (table p k ns)) = omega (arith, v.ends) in
@@ -161,7 +150,7 @@ module _ (mode : Mode) (p : ℤ) (k : ℕ) (ns : List ℤ) (sound : Sound p k ns
         holds = written_front old new n (all_rows mark (table p k ns)) v;
       }
 
-  pub shrunk_answer : (p0 : ℕ) → p0 ≡ code (accepting p) → (old new : List ℤ) (n s : ℕ)
+  pub shrunk_answer : (p0 : Option ℕ) → p0 ≡ accepting p → (old new : List ℤ) (n s : ℕ)
       → Shrunk mode p0 ns old new n s
       → Makes (accept (shrunk mode (table p k ns))) (making.Made p k n s) old new
   shrunk_answer p0 e old new n s h =

@@ -3,6 +3,7 @@
 use mathlib.Core.Path.{◌≡◌, sym, ap, ◌∙◌}
 use mathlib.Core.Bool.{Bool, true, false, not, ◌&&◌}
 use mathlib.Core.List.{List, [], ◌∷◌}
+use mathlib.Core.Option.{Option}
 use Prim.Native.Nat.{ℕ, ◌+◌, ◌*◌, ◌%◌, ◌<◌}
 use native.Mathlib.Omega.{arith}
 use borrow.Author.Tests.{eq-eqb, ne_eqb}
@@ -84,53 +85,49 @@ module _ (ns : List ℤ) (mark : ℕ → ℕ) where
 
 -- ---- states
 
-module _ (mode : Mode) (p0 : ℕ) (ns : List ℤ) (mark : ℕ → ℕ) where
+module _ (mode : Mode) (p : Option ℕ) (ns : List ℤ) (mark : ℕ → ℕ) where
   abbrev t : Table
-  t = coded p0 ns
+  t = coded p ns
 
-  counted_yes : (s x : ℕ) → x ≡ code (production_at t s) → compared mode (uncoded x) ≡ true
+  counted_yes : (s : ℕ) → compared mode (production_at t s) ≡ true
       → counted mode t mark s ≡ redirect mark (rows_of (rows_in ns) s)
   unfolding counted
-  counted_yes s x e c =
-      let q : uncoded x ≡ production_at t s = ap uncoded e ∙ uncoded_code (production_at t s) in
-      rw (← q, c)
+  counted_yes s c = rw c
 
-  counted_no : (s x : ℕ) → x ≡ code (production_at t s) → compared mode (uncoded x) ≡ false
-      → counted mode t mark s ≡ []
+  counted_no : (s : ℕ) → compared mode (production_at t s) ≡ false → counted mode t mark s ≡ []
   unfolding counted
-  counted_no s x e c =
-      let q : uncoded x ≡ production_at t s = ap uncoded e ∙ uncoded_code (production_at t s) in
-      rw (← q, c)
+  counted_no s c = rw c
 
-  module _ (s x : ℕ) (e : x ≡ code (production_at t s)) where
-    pub sign_rows : compared mode (uncoded x) ≡ true → (r : ℕ)
-        → r ≡ hash (x % 65521) (redirect mark (rows_of (rows_in ns) s)) → r ≡ sign mode t mark s
+  module _ (s : ℕ) (x : Option ℕ) (e : x ≡ production_at t s) where
+    pub sign_rows : compared mode x ≡ true
+        → hash (code x % 65521) (redirect mark (rows_of (rows_in ns) s)) ≡ sign mode t mark s
     unfolding sign
-    sign_rows c r h = h ∙ rw (counted_yes s x e c, e)
+    sign_rows c = rw e (rw (counted_yes s (rw e at c)))
 
-    pub sign_alone : compared mode (uncoded x) ≡ false → x % 65521 ≡ sign mode t mark s
+    pub sign_alone : compared mode x ≡ false → code x % 65521 ≡ sign mode t mark s
     unfolding sign hash
-    sign_alone c = rw (counted_no s x e c, e)
+    sign_alone c = rw e (rw (counted_no s (rw e at c)))
 
-  module _ (a b x y : ℕ) (e : x ≡ code (production_at t a)) (f : y ≡ code (production_at t b)) where
-    pub like_not : (x ≡ y → ⊥) → false ≡ like mode t mark a b
+  module _ (a b : ℕ) where
+    pub like_not : (production_at t a ≡ production_at t b → ⊥) → false ≡ like mode t mark a b
     unfolding like
     like_not d =
         let q : same_production (production_at t a) (production_at t b) ≡ false =
         sym (code_same (production_at t a) (production_at t b))
-        ∙ ne_eqb (code (production_at t a)) (code (production_at t b)) (λ z. d (e ∙ z ∙ sym f)) in
+        ∙ ne_eqb (code (production_at t a)) (code (production_at t b))
+        (λ z. d (sym (uncoded_code (production_at t a)) ∙ ap uncoded z ∙ uncoded_code (production_at t b))) in
         rw q
 
-    module _ (g : x ≡ y) where
+    module _ (g : production_at t a ≡ production_at t b) where
       one : same_production (production_at t a) (production_at t b) ≡ true
       one =
           sym (code_same (production_at t a) (production_at t b))
-          ∙ eq-eqb (code (production_at t a)) (code (production_at t b)) (sym e ∙ g ∙ f)
+          ∙ eq-eqb (code (production_at t a)) (code (production_at t b)) (ap code g)
 
-      pub like_cut : compared mode (uncoded x) ≡ false → true ≡ like mode t mark a b
+      pub like_cut : compared mode (production_at t a) ≡ false → true ≡ like mode t mark a b
       unfolding like same_rows
-      like_cut c = rw (one, counted_no a x e c, counted_no b x (g ∙ f) c)
+      like_cut c = rw (one, counted_no a c, counted_no b (rw g at c))
 
-      pub like_rows : compared mode (uncoded x) ≡ true → rows_alike ns mark a b ≡ like mode t mark a b
+      pub like_rows : compared mode (production_at t a) ≡ true → rows_alike ns mark a b ≡ like mode t mark a b
       unfolding like
-      like_rows c = rw (one, counted_yes a x e c, counted_yes b x (g ∙ f) c)
+      like_rows c = rw (one, counted_yes a c, counted_yes b (rw g at c))

@@ -1,6 +1,6 @@
 -- Rows written at the front of an output, and the shrunk table.
 use Rattle.std.specs.Prelude.{◌≡◌, List, ◌++◌, map, ℕ, ◌+◌, ◌*◌, ◌≤◌, length, get_or, take, drop, ℤ}
-use Rattle.std.proofs.Math.Option.{none}
+use Rattle.std.proofs.Math.Option.{Option, none}
 use Rattle.paper.specs.declared.Mode.{Mode}
 use Rattle.paper.specs.Rows.{Row, Table, numbers, rows_in, table}
 use Rattle.paper.specs.Checks.{ruled}
@@ -48,11 +48,11 @@ all_rows mark t = marked_rows mark t (heads_of mark t) (heads_of mark t)
 
 -- The shrunk table of some marks is written: n rows, and s states.
 pub record Wrote (ns : List ℤ) (class : List ℕ) (old new : List ℤ) (n s : ℕ) : Type 0 where
-  pub rows : Written old new 0 n (all_rows (mark_in class) (coded 0 ns))
-  pub states : s ≡ length (heads_of (mark_in class) (coded 0 ns))
+  pub rows : Written old new 0 n (all_rows (mark_in class) (coded none ns))
+  pub states : s ≡ length (heads_of (mark_in class) (coded none ns))
 
 -- And the marks are those of shrinking.
-pub record Shrunk (mode : Mode) (p0 : ℕ) (ns old new : List ℤ) (n s : ℕ) : Type 0 where
+pub record Shrunk (mode : Mode) (p0 : Option ℕ) (ns old new : List ℤ) (n s : ℕ) : Type 0 where
   pub class : List ℕ
   pub classes : Classes mode (coded p0 ns) class
   pub wrote : Wrote ns class old new n s

@@ -21,13 +21,6 @@ pub slot_small : (g d : ℕ) → slot g d < 1024
 unfolding slot
 slot_small g d = omega arith
 
--- d steps are not long
-pub step_short : (g d : ℕ) → g < 65521 → d < 1024 → d * (g / 1024 * 2 + 1) ≤ 1024 * 128
-step_short g d l m =
-    let a : d ≤ 1024 = omega arith in
-    let b : g / 1024 * 2 + 1 ≤ 128 = omega arith in
-    mul-le-mul a b
-
 module _ (x w i : ℕ) where
   -- Some number of odd steps below n leads from x to i, but for multiples of n.
   abbrev Met : ℕ → Type 0
