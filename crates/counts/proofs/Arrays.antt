@@ -2,7 +2,7 @@
 -- Assumes nothing.
 use mathlib.Core.Path.{◌≡◌, sym, ◌∙◌}
 use mathlib.Core.List.{List}
-use Prim.Native.Nat.{ℕ, ◌+◌, ◌*◌, ◌<◌}
+use Prim.Native.Nat.{ℕ, ◌+◌, ◌*◌, ◌<◌, ◌≤◌}
 use native.Mathlib.Omega.{arith}
 use borrow.Author.Tests.{eqb-true, eqb-false}
 use lib.Dec.{eqb}
@@ -10,6 +10,7 @@ use lib.ListN.{length, get_or, set, replicate, length-set, length-replicate, get
 use lib.Seq.{get_or-set_same, get_or-set_other}
 use lib.IntN.{ℤ}
 use Rattle.rows.specs.Places.{row_at}
+use Rattle.rows.specs.Passed.{Passed}
 use Rattle.rows.proofs.Rest.{by_test}
 use Rattle.rows.proofs.Fits.{Fit, fits_at}
 use Rattle.counts.specs.Arrays.{Fitting, Holds, Clear}
@@ -38,3 +39,7 @@ holds_as e h = record { sized = h.sized; held = λ s m. h.held s m ∙ sym (e s)
 -- a row of rows within their bounds
 pub bound : {ns : List ℤ} → Fitting ns → (i : ℕ) → i * 4 + 3 < length ns → Fit (row_at ns i)
 bound {ns} b i h = fits_at ns b.fits i (omega arith)
+
+-- rows that passed 1 to 3
+pub fitting : {ns : List ℤ} → Passed ns → length ns ≤ 16384 → Fitting ns
+fitting h l = record { fits = h.fits; few = l }

@@ -5,50 +5,51 @@ ghost use Rattle.std.specs.Prelude.{◌≡◌, ◌/◌, ◌<◌, ◌≤◌, leng
 ghost use Rattle.paper.specs.Rows.{rows_in, states};
 ghost use Rattle.paper.specs.Checks.{each_once, no_tree};
 ghost use Rattle.rows.specs.Places.{bare};
-ghost use Rattle.counts.specs.Arrays.{Fitting, Clear};
+ghost use Rattle.counts.specs.Arrays.{Clear};
 ghost use Rattle.counts.specs.Counts.{Counted, Entered};
 
-use rows::numbers;
+use rows::Rows;
+
+// Rows that passed the checks 1 to 3: the arrays over the states are made of them.
+#[derive(Clone, Copy)]
+pub struct FewRows<'a> {
+    pub rows: Rows<'a>,
+    ghost few: { length rows.numbers.now ≤ 16384 },
+}
 
 // Counts the rows into each state.
-fn count(rows: &[i32], counts: &mut [u16; 1024])
-    requires { Fitting rows.now × Clear counts.old }
-    ensures { Counted rows.now counts.new }
+fn count(few: FewRows, counts: &mut [u16; 1024])
+    requires { Clear counts.old }
+    ensures { Counted few.entry.rows.numbers.now counts.new }
 {
-    let mut i = rows.len() / 4;
-    while 0 < i {
-        i -= 1;
-        let to = numbers::to_at(rows, i);
-        counts[to] += 1;
+    for i in (0..few.rows.count()).rev() {
+        counts[few.rows.to(i)] += 1;
     }
 }
 
 // The states 1 to the row count have one row each.
-fn each_once(rows: &[i32], counts: &[u16; 1024]) -> bool
-    requires { (length rows.now / 4 ≤ 1023) × Counted rows.now counts.now }
-    ensures { result ≡ each_once (rows_in rows.now) (length rows.now / 4) }
+fn each_once(rows: Rows, counts: &[u16; 1024]) -> bool
+    requires { (length rows.numbers.now / 4 ≤ 1023) × Counted rows.numbers.now counts.now }
+    ensures { result ≡ each_once (rows_in rows.entry.numbers.now) (length rows.entry.numbers.now / 4) }
 {
-    let mut i = rows.len() / 4;
-    while 0 < i {
-        if counts[i] != 1 {
+    for i in (0..rows.count()).rev() {
+        if counts[i + 1] != 1 {
             return false;
         }
-        i -= 1;
     }
     true
 }
 
-// 7 TREE.
-pub fn no_tree(rows: &[i32]) -> bool
-    requires { Fitting rows.now }
-    ensures { result ≡ no_tree (bare rows.now) }
+// 7 TREE: true when it refuses.
+pub fn no_tree(few: FewRows) -> bool
+    ensures { result ≡ no_tree (bare few.entry.rows.numbers.now) }
 {
-    if 1023 < rows.len() / 4 {
+    if 1023 < few.rows.count() {
         return true;
     }
     let mut counts = [0u16; 1024];
-    count(rows, &mut counts);
-    !each_once(rows, &counts)
+    count(few, &mut counts);
+    !each_once(few.rows, &counts)
 }
 
 // Enters a state: 1 if it was not entered before, else 0.
@@ -64,26 +65,22 @@ fn enter(seen: &mut [u8; 1024], s: usize) -> usize
 }
 
 // Counts the states, state 0 first.
-fn count_states(rows: &[i32], seen: &mut [u8; 1024]) -> usize
-    requires { Fitting rows.now × Clear seen.old }
-    ensures { result ≡ length (states (rows_in rows.now)) }
+fn count_states(few: FewRows, seen: &mut [u8; 1024]) -> usize
+    requires { Clear seen.old }
+    ensures { result ≡ length (states (rows_in few.entry.rows.numbers.now)) }
 {
     seen[0] = 1;
     let mut n = 1;
-    let mut i = rows.len() / 4;
-    while 0 < i {
-        i -= 1;
-        let to = numbers::to_at(rows, i);
-        n += enter(seen, to);
+    for i in (0..few.rows.count()).rev() {
+        n += enter(seen, few.rows.to(i));
     }
     n
 }
 
 // How many states the rows have: 0 and every to.
-pub fn state_count(rows: &[i32]) -> usize
-    requires { Fitting rows.now }
-    ensures { result ≡ length (states (rows_in rows.now)) }
+pub fn state_count(few: FewRows) -> usize
+    ensures { result ≡ length (states (rows_in few.entry.rows.numbers.now)) }
 {
     let mut seen = [0u8; 1024];
-    count_states(rows, &mut seen)
+    count_states(few, &mut seen)
 }

@@ -1,17 +1,10 @@
 -- What a call is to do, and document 01's number and values for each case of each answer.
-use Rattle.std.specs.Prelude.{ℕ, ◌≡◌, List, [], ◌∷◌, ◌++◌, length, drop, ℤ}
+use Rattle.std.specs.Prelude.{ℕ, ◌≡◌, List, [], ◌∷◌, ◌++◌, length, drop, ℤ, Result, Ok, Err}
 use Rattle.paper.specs.declared.Refusal.{Refusal}
 use Rattle.paper.specs.declared.Refusal.TheVariants as refusal
-use Rattle.paper.specs.declared.Making.{Making}
-use Rattle.paper.specs.declared.Making.TheVariants as making
+use Rattle.paper.specs.declared.Heading.{Heading}
+use Rattle.paper.specs.declared.Title.{Title}
 use Rattle.paper.specs.declared.Prediction.{Prediction}
-use Rattle.paper.specs.declared.Prediction.TheVariants as prediction
-use Rattle.paper.specs.declared.Explanation.{Explanation}
-use Rattle.paper.specs.declared.Explanation.TheVariants as explanation
-use Rattle.paper.specs.declared.Reading.{Reading}
-use Rattle.paper.specs.declared.Reading.TheVariants as reading
-use Rattle.paper.specs.declared.Writing.{Writing}
-use Rattle.paper.specs.declared.Writing.TheVariants as writing
 use Rattle.paper.specs.Rows.{Table, signed, numbers}
 
 -- A call accepts, or refuses by a number, with the detail of 8 and 13.
@@ -74,47 +67,19 @@ pub record Chosen : Type 0 where
   pub production : ℕ
   pub entered : ℕ
 
--- The values of an answer of build, unite, shrink and intake's call, whose rows stand in the output.
-pub record Heading : Type 0 where
-  pub prod0 : ℤ
-  pub k : ℕ
-  pub rows : ℕ
-  pub states : ℕ
-
--- The values of an answer of text in, whose rows stand in the output.
-pub record Title : Type 0 where
-  pub prod0 : ℤ
-  pub k : ℕ
-  pub rows : ℕ
-
 -- The ruling that an answer states.
-abbrev pub made : Making → Ruling Heading
-made (making.Made p k n s) = accept (record { prod0 = p; k = k; rows = n; states = s })
-made (making.Refused r) = refuse (number r) (detail r)
+abbrev pub stated : {A : Type 0} → Result A Refusal → Ruling A
+stated (Ok a) = accept a
+stated (Err r) = refuse (number r) (detail r)
 
 -- Of predict.
-abbrev pub predicted : Prediction → Ruling Chosen
-predicted (prediction.Predicted q n) = accept (record { production = q.0; entered = n })
-predicted (prediction.Refused r) = refuse (number r) (detail r)
-
--- Of explain's first call.
-abbrev pub explained : Explanation → Ruling ℕ
-explained (explanation.Matched n) = accept n
-explained (explanation.Refused r) = refuse (number r) (detail r)
-
--- Of text in.
-abbrev pub heard : Reading → Ruling Title
-heard (reading.Read p k n) = accept (record { prod0 = p; k = k; rows = n })
-heard (reading.Refused r) = refuse (number r) (detail r)
-
--- Of text out and batch.
-abbrev pub wrote : Writing → Ruling ℕ
-wrote (writing.Wrote n) = accept n
-wrote (writing.Refused r) = refuse (number r) (detail r)
+abbrev pub predicted : Result Prediction Refusal → Ruling Chosen
+predicted (Ok p) = accept (record { production = p.production.0; entered = p.entered })
+predicted (Err r) = refuse (number r) (detail r)
 
 -- Build, unite, shrink and intake's call: the answer and the output are what the ruling says.
-pub record Makes (ruling : Ruling Made) (answer : Making) (old new : List ℤ) : Type 0 where
-  pub says : made answer ≡ then ruling (λ m. accept (record {
+pub record Makes (ruling : Ruling Made) (answer : Result Heading Refusal) (old new : List ℤ) : Type 0 where
+  pub says : stated answer ≡ then ruling (λ m. accept (record {
     prod0 = signed m.table.prod0;
     k = m.table.k;
     rows = length m.table.rows;
@@ -123,8 +88,8 @@ pub record Makes (ruling : Ruling Made) (answer : Making) (old new : List ℤ) :
   pub holds : new ≡ output (λ m. numbers m.table.rows) ruling old
 
 -- Text in: the answer and the output are what the ruling says.
-pub record Reads (ruling : Ruling Table) (answer : Reading) (old new : List ℤ) : Type 0 where
-  pub says : heard answer ≡ then ruling (λ t. accept (record {
+pub record Reads (ruling : Ruling Table) (answer : Result Title Refusal) (old new : List ℤ) : Type 0 where
+  pub says : stated answer ≡ then ruling (λ t. accept (record {
     prod0 = signed t.prod0;
     k = t.k;
     rows = length t.rows;
@@ -132,6 +97,6 @@ pub record Reads (ruling : Ruling Table) (answer : Reading) (old new : List ℤ)
   pub holds : new ≡ output (λ t. numbers t.rows) ruling old
 
 -- Text out and batch: the answer and the output are what the ruling says.
-pub record Writes {E : Type 0} (ruling : Ruling (List E)) (answer : Writing) (old new : List E) : Type 0 where
-  pub says : wrote answer ≡ then ruling (λ b. accept (length b))
+pub record Writes {E : Type 0} (ruling : Ruling (List E)) (answer : Result ℕ Refusal) (old new : List E) : Type 0 where
+  pub says : stated answer ≡ then ruling (λ b. accept (length b))
   pub holds : new ≡ output (λ b. b) ruling old

@@ -5,24 +5,24 @@ ghost use Rattle.std.specs.Prelude.{◌≡◌};
 ghost use Rattle.paper.specs.Answers.{number};
 
 // Three sorts of number, so that none can stand in for another.
-#[derive(Clone, Copy)]
+#[derive(Clone, Copy, Debug, PartialEq, Eq)]
 pub struct State(pub u16);
 
-#[derive(Clone, Copy)]
+#[derive(Clone, Copy, Debug, PartialEq, Eq)]
 pub struct Terminal(pub u16);
 
-#[derive(Clone, Copy)]
+#[derive(Clone, Copy, Debug, PartialEq, Eq)]
 pub struct Production(pub u16);
 
 // The caller names the mode: archive as the Rust did, intake by the string lists alone.
-#[derive(Clone, Copy)]
+#[derive(Clone, Copy, Debug, PartialEq, Eq)]
 pub enum Mode {
     Archive,
     Intake,
 }
 
 // Why a call refuses: 1 to 14, in the order of their numbers.
-#[derive(Clone, Copy)]
+#[derive(Clone, Copy, Debug, PartialEq, Eq)]
 pub enum Refusal {
     Length,
     Range,
@@ -42,47 +42,44 @@ pub enum Refusal {
     Full,
 }
 
+// A table as it is lent: prod0, k, and four numbers a row.
+#[derive(Clone, Copy)]
+pub struct Table<'a> {
+    pub prod0: i32,
+    pub k: usize,
+    pub rows: &'a [i32],
+}
+
+// The strings that one production may begin with: the length of each, and the tokens of all, one string after the other.
+#[derive(Clone, Copy)]
+pub struct StringList<'a> {
+    pub production: i32,
+    pub tokens: &'a [u16],
+    pub lengths: &'a [usize],
+}
+
 // Build, unite, shrink and intake's call: of a table whose rows stand at the front of the output.
-#[derive(Clone, Copy)]
-pub enum Making {
-    Made {
-        prod0: i32,
-        k: usize,
-        rows: usize,
-        states: usize,
-    },
-    Refused(Refusal),
-}
-
-// Predict: the production, and the count of rows entered.
-#[derive(Clone, Copy)]
-pub enum Prediction {
-    Predicted {
-        production: Production,
-        entered: usize,
-    },
-    Refused(Refusal),
-}
-
-// Explain, the first call: the count of matched tokens.
-#[derive(Clone, Copy)]
-pub enum Explanation {
-    Matched(usize),
-    Refused(Refusal),
+#[derive(Clone, Copy, Debug, PartialEq, Eq)]
+pub struct Heading {
+    pub prod0: i32,
+    pub k: usize,
+    pub rows: usize,
+    pub states: usize,
 }
 
 // Text in: of a table whose rows stand at the front of the output.
-#[derive(Clone, Copy)]
-pub enum Reading {
-    Read { prod0: i32, k: usize, rows: usize },
-    Refused(Refusal),
+#[derive(Clone, Copy, Debug, PartialEq, Eq)]
+pub struct Title {
+    pub prod0: i32,
+    pub k: usize,
+    pub rows: usize,
 }
 
-// Text out and batch: the count of bytes, of answers, at the front of the output.
-#[derive(Clone, Copy)]
-pub enum Writing {
-    Wrote(usize),
-    Refused(Refusal),
+// Predict: the production, and the count of rows entered.
+#[derive(Clone, Copy, Debug, PartialEq, Eq)]
+pub struct Prediction {
+    pub production: Production,
+    pub entered: usize,
 }
 
 impl Refusal {

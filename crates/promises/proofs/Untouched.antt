@@ -3,9 +3,7 @@ use mathlib.Core.Path.{◌≡◌, ap, ◌∙◌}
 use mathlib.Core.List.{List}
 use lib.IntN.{ℤ}
 use Rattle.paper.specs.declared.Refusal.{Refusal}
-use Rattle.paper.specs.declared.Making.TheVariants as making
-use Rattle.paper.specs.declared.Reading.TheVariants as reading
-use Rattle.paper.specs.declared.Writing.TheVariants as writing
+use Rattle.std.specs.Prelude.{Err}
 use Rattle.paper.specs.Rows.{Table}
 use Rattle.paper.specs.Answers.{Ruling, accept, refuse, then, output, number, detail, Made, Makes, Reads, Writes}
 use Rattle.laws.proofs.Refusals.{refused_is}
@@ -17,16 +15,16 @@ untouched told write g f old new e h =
     h ∙ ap (λ (r : Ruling _). output write r old) (refused_is told g (number f) (detail f) e)
 
 -- the calls that make a table
-pub makes_untouched : (g : Ruling Made) (f : Refusal) (old new : List ℤ) → Makes g (making.Refused f) old new →
+pub makes_untouched : (g : Ruling Made) (f : Refusal) (old new : List ℤ) → Makes g (Err f) old new →
     new ≡ old
 makes_untouched g f old new m = untouched _ _ g f old new m.says m.holds
 
 -- text in
-pub reads_untouched : (g : Ruling Table) (f : Refusal) (old new : List ℤ) → Reads g (reading.Refused f) old new →
+pub reads_untouched : (g : Ruling Table) (f : Refusal) (old new : List ℤ) → Reads g (Err f) old new →
     new ≡ old
 reads_untouched g f old new m = untouched _ _ g f old new m.says m.holds
 
 -- text out and batch
 pub writes_untouched : {E : Type 0} (g : Ruling (List E)) (f : Refusal) (old new : List E) →
-    Writes g (writing.Refused f) old new → new ≡ old
+    Writes g (Err f) old new → new ≡ old
 writes_untouched g f old new m = untouched _ _ g f old new m.says m.holds

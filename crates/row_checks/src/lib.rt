@@ -1,33 +1,48 @@
-// Document 01, module 1: the checks 1 to 4, each true when it refuses, and what 2 and 3 say of a table.
+// Document 01, module 1: the checks 1 to 4, and tables that passed the first of them.
 #![tactic(auto)]
 
-ghost use Rattle.std.specs.Prelude.{◌≡◌, ◌&&◌, ◌+◌, ◌*◌, ◌<◌, length, leb};
-ghost use Rattle.paper.specs.Rows.{table};
-ghost use Rattle.paper.specs.Checks.{row_slice, row_fits, shape, plain};
-ghost use Rattle.rows.specs.Places.{row, row_at, bare};
-ghost use Rattle.row_checks.specs.Verdicts.{said, of_rows, Judges};
+ghost use Rattle.std.specs.Prelude.{◌≡◌, ◌&&◌, ◌+◌, ◌*◌, ◌<◌, length, leb, IfOk};
+ghost use Rattle.paper.specs.Rows.{accepting, table};
+ghost use Rattle.paper.specs.Checks.{row_slice, row_fits, production_fits, shape, plain};
+ghost use Rattle.rows.specs.Places.{row, row_at, bare, given};
+ghost use Rattle.row_checks.specs.Verdicts.{of_rows, sized, whole, Judges, Sound, Whole};
 
-use paper::Refusal;
-use rows::numbers;
+use paper::{Production, Refusal, Table};
+use rows::{Rows, numbers};
 
-// What the checks say.
+// A table whose row slice passed the check 1.
 #[derive(Clone, Copy)]
-pub enum Verdict {
-    Pass,
-    Refused(Refusal),
+pub struct Measured<'a> {
+    pub table: Table<'a>,
+    ghost whole: { Whole table.rows.now },
 }
 
-// What the last check of a call says, that refuses by f.
-pub fn last(refuses: bool, f: Refusal) -> Verdict
-    ensures { result ≡ said refuses f }
-{
-    if refuses {
-        return Verdict::Refused(f);
+// A table that passed the checks 2 and 3.
+#[derive(Clone, Copy)]
+pub struct Checked<'a> {
+    pub table: Table<'a>,
+    ghost sound: { Sound table.prod0 table.k table.rows.now },
+}
+
+impl<'a> Checked<'a> {
+    // Its rows.
+    pub fn rows(self) -> Rows<'a>
+        ensures { result.numbers.now ≡ self.entry.table.rows.now }
+    {
+        Rows {
+            numbers: self.table.rows,
+        }
     }
-    Verdict::Pass
+
+    // The production of state 0.
+    pub fn root(self) -> Option<Production>
+        ensures { given result ≡ accepting self.entry.table.prod0 }
+    {
+        numbers::accepting(self.table.prod0)
+    }
 }
 
-// 1 LENGTH, of a row slice.
+// 1 LENGTH, of a row slice: true when it refuses.
 pub fn row_slice(rows: &[i32]) -> bool
     ensures { result ≡ row_slice rows.now }
 {
@@ -38,19 +53,19 @@ pub fn row_slice(rows: &[i32]) -> bool
     16384 < n
 }
 
-// 2 RANGE: prod0, by its code, and k are within their bounds.
-pub fn head_fits(code: usize, k: usize) -> bool
-    ensures { result ≡ (leb code 65536 && leb k 16) }
+// 2 RANGE: prod0 and k are within their bounds.
+pub fn head_fits(prod0: i32, k: usize) -> bool
+    ensures { result ≡ (production_fits (accepting prod0) && leb k 16) }
 {
-    if 65536 < code {
+    if !numbers::production_fits(prod0) {
         return false;
     }
     k <= 16
 }
 
-// 2 RANGE: a row's numbers, its production by its code, are within their bounds.
-pub fn row_fits(from: usize, terminal: usize, to: usize, code: usize) -> bool
-    ensures { result ≡ row_fits (row from terminal to code) }
+// 2 RANGE: a row's numbers are within their bounds.
+pub fn row_fits(from: usize, terminal: usize, to: usize, production: i32) -> bool
+    ensures { result ≡ row_fits (row from terminal to production) }
 {
     if 1023 < from {
         return false;
@@ -61,7 +76,7 @@ pub fn row_fits(from: usize, terminal: usize, to: usize, code: usize) -> bool
     if 1023 < to {
         return false;
     }
-    code <= 65536
+    numbers::production_fits(production)
 }
 
 // The same of row i: each number is tested as it is read; reading all four first was measured as slower.
@@ -78,52 +93,73 @@ fn fits_at(rows: &[i32], i: usize) -> bool
     if 1023 < numbers::to_at(rows, i) {
         return false;
     }
-    numbers::code_at(rows, i) <= 65536
+    numbers::production_fits(rows[i * 4 + 3])
 }
 
 // 2 and 3 of the rows, in one pass: 2 comes first wherever it stands.
-fn in_one_pass(rows: &[i32]) -> Verdict
+fn in_one_pass(rows: &[i32]) -> Result<(), Refusal>
     ensures { Judges (of_rows rows.now) result }
 {
-    let n = rows.len() / 4;
     let mut falls = false;
     let mut above = 0;
-    let mut i = 0;
-    while i < n {
+    for i in 0..rows.len() / 4 {
         if !fits_at(rows, i) {
-            return Verdict::Refused(Refusal::Range);
+            return Err(Refusal::Range);
         }
         let key = numbers::from_at(rows, i) * 65536 + numbers::terminal_at(rows, i);
         if key < above {
             falls = true;
         }
         above = key + 1;
-        i += 1;
     }
-    last(falls, Refusal::Order)
+    if falls {
+        return Err(Refusal::Order);
+    }
+    Ok(())
 }
 
-// 4 SHAPE.
+// 4 SHAPE: true when it refuses.
 pub fn shape(rows: &[i32]) -> bool
     ensures { result ≡ shape (bare rows.now) }
 {
-    let n = rows.len() / 4;
-    let mut i = 0;
-    while i < n {
+    for i in 0..rows.len() / 4 {
         if numbers::to_at(rows, i) <= numbers::from_at(rows, i) {
             return true;
         }
-        i += 1;
     }
     false
 }
 
 // The checks 2 and 3.
-pub fn plain(prod0: i32, k: usize, rows: &[i32]) -> Verdict
-    ensures { Judges (plain (table prod0 k rows.now)) result }
+pub fn plain<'a>(lent: Table<'a>) -> Result<Checked<'a>, Refusal>
+    ensures judges { Judges (plain (table lent.entry.prod0 lent.entry.k lent.entry.rows.now)) result }
+    ensures same { IfOk result (λ t. t.table ≡ lent.entry) }
 {
-    if !head_fits(numbers::coded(prod0), k) {
-        return Verdict::Refused(Refusal::Range);
+    if !head_fits(lent.prod0, lent.k) {
+        return Err(Refusal::Range);
     }
-    in_one_pass(rows)
+    in_one_pass(lent.rows)?;
+    Ok(Checked { table: lent })
+}
+
+// The check 1 of a table's rows.
+pub fn sized<'a>(lent: Table<'a>) -> Result<Measured<'a>, Refusal>
+    ensures judges { Judges (sized lent.entry.rows.now) result }
+    ensures same { IfOk result (λ t. t.table ≡ lent.entry) }
+{
+    if row_slice(lent.rows) {
+        return Err(Refusal::Length);
+    }
+    Ok(Measured { table: lent })
+}
+
+// The checks 1 to 3, the first of every call that only reads a table.
+pub fn whole<'a>(lent: Table<'a>) -> Result<Checked<'a>, Refusal>
+    ensures judges { Judges (whole lent.entry.prod0 lent.entry.k lent.entry.rows.now) result }
+    ensures same { IfOk result (λ t. t.table ≡ lent.entry) }
+{
+    if row_slice(lent.rows) {
+        return Err(Refusal::Length);
+    }
+    plain(lent)
 }

@@ -1,7 +1,7 @@
 -- The tests of RANGE, as the code makes them one after the other.
 -- Assumes nothing.
-use mathlib.Core.Path.{◌≡◌, refl, sym, ap, ◌∙◌}
-use mathlib.Core.Bool.{Bool, true, false, not, ◌&&◌}
+use mathlib.Core.Path.{◌≡◌, refl, ◌∙◌}
+use mathlib.Core.Bool.{true, false, not, ◌&&◌}
 use mathlib.Core.Option.{Option, none, some}
 use mathlib.Core.List.{List}
 use Prim.Native.Nat.{ℕ, ◌/◌, ◌≤◌, ◌<◌}
@@ -34,21 +34,18 @@ module _ (r : Row) where
   to_out a b h = simp (le-leb _ _ a, le-leb _ _ b, lt-leb _ _ h)
 
   pub production_left : r.from ≤ 1023 → r.terminal ≤ 65535 → r.to ≤ 1023
-      → leb (code r.production) 65536 ≡ row_fits r
+      → production_fits r.production ≡ row_fits r
   unfolding row_fits
-  production_left a b c = simp (le-leb _ _ a, le-leb _ _ b, le-leb _ _ c) (code_fits r.production)
+  production_left a b c = simp (le-leb _ _ a, le-leb _ _ b, le-leb _ _ c)
 
-module _ (t : Table) (x : ℕ) (e : x ≡ code t.prod0) where
-  head : (leb x 65536 && leb t.k 16) ≡ (production_fits t.prod0 && leb t.k 16)
-  head = ap (λ (b : Bool). b && leb t.k 16) (ap (λ (n : ℕ). leb n 65536) e ∙ code_fits t.prod0)
-
-  pub head_out : (leb x 65536 && leb t.k 16) ≡ false → range t ≡ true
+module _ (t : Table) where
+  pub head_out : (production_fits t.prod0 && leb t.k 16) ≡ false → range t ≡ true
   unfolding range
-  head_out h = rw (sym head ∙ h)
+  head_out h = rw h
 
-  pub rows_left : (leb x 65536 && leb t.k 16) ≡ true → not (every row_fits t.rows) ≡ range t
+  pub rows_left : (production_fits t.prod0 && leb t.k 16) ≡ true → not (every row_fits t.rows) ≡ range t
   unfolding range
-  rows_left h = rw (sym head ∙ h)
+  rows_left h = rw h
 
 -- what a row within its bounds is
 pub record Fit (r : Row) : Type 0 where

@@ -6,3 +6,4 @@ pub mod Keys
 pub mod Passing
 pub mod Counted
 pub mod Four
+pub mod Columns

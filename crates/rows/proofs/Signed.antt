@@ -1,20 +1,21 @@
 -- An i32 as the machine reads it back, `to_z w32 (of_z w32 x)`: what its tests and casts say of the number.
 -- Assumes nothing.
-use mathlib.Core.Path.{◌≡◌, refl, ap, ◌∙◌}
+use mathlib.Core.Path.{◌≡◌, refl, sym, ap, ◌∙◌}
 use mathlib.Core.Bool.{true, false, true≢false}
 use Prim.Native.Nat.{ℕ, zero, suc, ◌+◌, ◌-◌, ◌<◌, ◌≤◌, ◌^◌}
 use native.Mathlib.Omega.{arith}
 use native.Mathlib.Numerals.{add-one}
-use borrow.Author.Tests.{ltb-true}
+use borrow.Author.Tests.{ltb-true, lt-leb}
 use mathlib.Core.List.{List}
 use lib.Dec.{T}
 use lib.ListN.{get_or}
 use lib.IntN.{ℤ, pos, negsuc, nat_abs}
-use lib.Signed.{lt_z, non_neg, mag}
+use lib.Signed.{lt_z, le_z, non_neg, mag}
 use mir.Syntax.{w32, w64}
 use mir.Val.{SFits, Fits, to_z, of_z}
 use mir.Facts.{to_z-of_z, to_z_pos}
 use Rattle.paper.specs.Rows.{natural, accepting, signed}
+use Rattle.paper.specs.Checks.{production_fits}
 use Rattle.rows.specs.Places.{Reads, code, uncoded}
 
 castable : (x : ℤ) → SFits w32 x → lt_z x (pos 0) ≡ false → T (non_neg x) × Fits w64 (nat_abs x)
@@ -71,6 +72,28 @@ is_none (pos n) h e = absurd (omega (arith, h.sfits))
 is_none (negsuc zero) h e = record { is = refl; small = omega arith }
 is_none (negsuc (suc n)) h e = absurd (omega (arith, h.sfits))
 
+-- the two tests of a production's bounds
+above_none : (z : ℤ) → le_z (negsuc 0) z ≡ true → le_z z (pos 65535) ≡ production_fits (accepting z)
+unfolding production_fits
+above_none (pos n) e = refl
+above_none (negsuc zero) e = refl
+above_none (negsuc (suc n)) e = absurd (true≢false (sym e ∙ lt-leb (suc n) 0 (omega arith)))
+
+below_none : (z : ℤ) → le_z (negsuc 0) z ≡ false → le_z (negsuc 0) z ≡ production_fits (accepting z)
+unfolding production_fits
+below_none (pos n) e = absurd (true≢false e)
+below_none (negsuc zero) e = absurd (true≢false e)
+below_none (negsuc (suc n)) e = e
+
+module _ (z : ℤ) (fits : SFits w32 z) where
+  pub fits_above : le_z (negsuc 0) (to_z w32 (of_z w32 z)) ≡ true
+      → le_z (to_z w32 (of_z w32 z)) (pos 65535) ≡ production_fits (accepting z)
+  fits_above = rw (to_z-of_z fits) (above_none z)
+
+  pub fits_below : le_z (negsuc 0) (to_z w32 (of_z w32 z)) ≡ false
+      → le_z (negsuc 0) (to_z w32 (of_z w32 z)) ≡ production_fits (accepting z)
+  fits_below = rw (to_z-of_z fits) (below_none z)
+
 -- the way back
 pub number_back : (n : ℕ) → n ≤ 65535 → to_z w32 n ≡ pos n
 number_back n h = to_z_pos w32 {n = n} (omega arith)
@@ -90,6 +113,12 @@ same x f = to_z-of_z {w = w32} f
 -- an element that was read, as a callee is passed it
 pub back : (z : ℤ) → mag z < 2 ^ 31 → to_z w32 (of_z w32 z) ≡ z
 back z h = to_z-of_z {w = w32} (record { sfits = h })
+
+-- a production within its bounds, as a callee is passed it
+pub kept : (z : ℤ) → code (accepting z) ≤ 65536 → to_z w32 (of_z w32 z) ≡ z
+kept (pos n) h = to_z-of_z {w = w32} {z = pos n} (record { sfits = omega arith })
+kept (negsuc zero) h = to_z-of_z {w = w32} {z = negsuc zero} (record { sfits = omega arith })
+kept (negsuc (suc n)) h = absurd (omega arith)
 
 -- what was read of a parameter that was passed on
 pub read_passed : (f : ℤ → ℕ) (x : ℤ) (r : ℕ) → SFits w32 x → Reads (f (to_z w32 (of_z w32 x))) r → Reads (f x) r

@@ -1,6 +1,8 @@
 -- Rows by their place in a row slice.
-use Rattle.std.specs.Prelude.{ℕ, zero, suc, ◌+◌, ◌*◌, ◌≤◌, ◌≡◌, List, get_or, drop, set, ℤ, pos}
+use Rattle.std.specs.Prelude.{ℕ, zero, suc, ◌+◌, ◌*◌, ◌≤◌, ◌≡◌, List, get_or, drop, set, ℤ, pos, Some, None}
 use Rattle.std.proofs.Math.Option.{Option, none, some}
+use Rattle.std.specs.declared.option.Option as rust
+use Rattle.paper.specs.declared.Production.{Production}
 use Rattle.paper.specs.Rows.{Row, Table, natural, accepting, rows_in, table}
 
 -- What is read is a number of the table; no i32 makes it larger than this.
@@ -17,9 +19,14 @@ abbrev pub uncoded : ℕ → Option ℕ
 uncoded zero = none
 uncoded (suc q) = some q
 
--- A row of four numbers, the last its production's code.
-abbrev pub row : ℕ → ℕ → ℕ → ℕ → Row
-row f t g c = record { from = f; terminal = t; to = g; production = uncoded c }
+-- A production of the code, as the definitions have it.
+abbrev pub given : rust.Option Production → Option ℕ
+given None = none
+given (Some q) = some q.0
+
+-- A row of four numbers, the last its production as a table holds it.
+abbrev pub row : ℕ → ℕ → ℕ → ℤ → Row
+row f t g p = record { from = f; terminal = t; to = g; production = accepting p }
 
 -- The row at place i.
 abbrev pub row_at : List ℤ → ℕ → Row

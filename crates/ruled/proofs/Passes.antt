@@ -3,16 +3,13 @@
 use mathlib.Core.Path.{◌≡◌}
 use mathlib.Core.Bool.{false}
 use mathlib.Core.List.{List}
-use Prim.Native.Nat.{ℕ, ◌≤◌}
-use lib.ListN.{length}
+use Prim.Native.Nat.{ℕ}
 use lib.IntN.{ℤ}
 use Rattle.paper.specs.Rows.{Table, table}
 use Rattle.paper.specs.Checks.{range, order, shape, loose, split, no_tree, ruled, tree}
 use Rattle.rows.specs.Passed.{Passed}
-use Rattle.row_checks.specs.Verdicts.{Judges}
-use Rattle.row_checks.specs.declared.Verdict.TheVariants.{Pass}
+use Rattle.row_checks.specs.Verdicts.{Passes}
 use Rattle.row_checks.proofs.Judged.{passes_first, passed}
-use Rattle.counts.specs.Arrays.{Fitting}
 
 -- A table that 2 to 6 do not refuse.
 pub record Ruled (t : Table) : Type 0 where
@@ -27,7 +24,7 @@ pub record Tree (t : Table) : Type 0 where
   pub ruled : Ruled t
   pub tree : no_tree t ≡ false
 
-pub ruled_passed : (t : Table) → Judges (ruled t) Pass → Ruled t
+pub ruled_passed : (t : Table) → Passes (ruled t) → Ruled t
 ruled_passed t j =
     let a = passes_first j in
     let b = passes_first a.1 in
@@ -36,7 +33,7 @@ ruled_passed t j =
     let e = passes_first d.1 in
     record { range = a.0; order = b.0; shape = c.0; loose = d.0; split = e.0 }
 
-pub tree_passed : (t : Table) → Judges (tree t) Pass → Tree t
+pub tree_passed : (t : Table) → Passes (tree t) → Tree t
 tree_passed t j =
     let a = passes_first j in
     let b = passes_first a.1 in
@@ -50,8 +47,5 @@ tree_passed t j =
     }
 
 -- its rows
-pub fitting : {ns : List ℤ} → Passed ns → length ns ≤ 16384 → Fitting ns
-fitting h l = record { fits = h.fits; few = l }
-
 pub ruled_rows : (p : ℤ) (k : ℕ) (ns : List ℤ) → Ruled (table p k ns) → Passed ns
 ruled_rows p k ns r = passed p k ns r.range r.order

@@ -2,32 +2,25 @@
 -- Assumes nothing.
 use mathlib.Core.Path.{◌≡◌, refl, sym, ap, ◌∙◌}
 use mathlib.Core.Bool.{Bool, true, false, not, ◌&&◌, false≢true}
-use mathlib.Core.Option.{Option, none, some}
+use mathlib.Core.Option.{Option, none}
 use mathlib.Core.List.{List}
 use Prim.Native.Nat.{ℕ, zero, suc, ◌+◌, ◌-◌, ◌*◌, ◌<◌, ◌≤◌}
 use native.Mathlib.Omega.{arith}
 use borrow.Author.Tests.{eq-eqb, eqb-true, not-true, not-false}
-use lib.Dec.{eqb, eqb-suc-suc, eqb-suc-zero, eqb-zero-suc}
+use lib.Dec.{eqb}
 use lib.ListN.{length, get_or}
 use lib.IntN.{ℤ}
 use Rattle.paper.specs.Rows.{Row, rows_in}
 use Rattle.paper.specs.Checks.{any, same_production, split}
 use Rattle.paper.specs.Shrink.{production_of}
 use Rattle.laws.proofs.Productions.{same_production_eq, same_production_refl}
-use Rattle.rows.specs.Places.{row_at, bare, code}
+use Rattle.rows.specs.Places.{row_at, bare}
 use Rattle.rows.proofs.Rest.{both, by_test}
 use Rattle.ruled.specs.Into.{into_from, Marked, leads, differs}
 use Rattle.counts.specs.Arrays.{Fitting}
 use Rattle.counts.proofs.Arrays.{bound}
 use Rattle.ruled.proofs.Firsts.{First, into_any, into_row}
 use Rattle.ruled.proofs.Somewhere.{same_test, any_place, place_any}
-
-pub code_same : (p q : Option ℕ) → eqb (code p) (code q) ≡ same_production p q
-unfolding same_production
-code_same none none = refl
-code_same none (some q) = eqb-zero-suc q
-code_same (some p) none = eqb-suc-zero p
-code_same (some p) (some q) = eqb-suc-suc p q
 
 same_as : (p q : Option ℕ) → p ≡ q → same_production p q ≡ true
 same_as p q e = rw e (same_production_refl q)
@@ -111,12 +104,8 @@ module _ (ns : List ℤ) where
       place_any (λ r. any (apart r) (rows_in ns)) ns
       (record { at = r.at; there = r.there; passes = first_apart r.at r.there r.passes }))
 
--- the test of row i, by the codes of its production and of that of the row that marks its state
-pub differs_mark : (ns : List ℤ) (i a b n : ℕ) → First ns (row_at ns i).to n
-    → a ≡ code (row_at ns i).production → b ≡ code (row_at ns n).production
-    → not (eqb a b) ≡ differs (rows_in ns) (row_at ns i)
-differs_mark ns i a b n f e d =
-    let p = (row_at ns i).production in
-    let q = (row_at ns n).production in
-    let s : eqb a b ≡ same_production p q = rw (e, d) (code_same p q) in
-    ap not (s ∙ ap (same_production p) (sym (f.gives none)))
+-- the test of row i, by its production and that of the row that marks its state
+pub differs_mark : (ns : List ℤ) (i n : ℕ) (p q : Option ℕ) → First ns (row_at ns i).to n
+    → p ≡ (row_at ns i).production → q ≡ (row_at ns n).production
+    → not (same_production p q) ≡ differs (rows_in ns) (row_at ns i)
+differs_mark ns i n p q f e d = ap not (rw (e, d) (ap (same_production (row_at ns i).production) (sym (f.gives none))))

@@ -1,26 +1,25 @@
 // The first row into each state.
-ghost use Rattle.std.specs.Prelude.{◌≡◌, ◌<◌, ◌≤◌};
-ghost use Rattle.counts.specs.Arrays.{Fitting, Clear};
+ghost use Rattle.std.specs.Prelude.{◌≡◌, ◌<◌, get_or};
+ghost use Rattle.counts.specs.Arrays.{Clear};
 ghost use Rattle.ruled.specs.Into.{Marked};
 
-use rows::numbers;
+use counts::FewRows;
 
-// Marks each state with the number, plus one, of the first row into it.
-pub fn mark(rows: &[i32], into: &mut [u16; 1024])
-    requires { Fitting rows.now × Clear into.old }
-    ensures { Marked rows.now into.new }
-{
-    let mut i = rows.len() / 4;
-    while 0 < i {
-        let to = numbers::to_at(rows, i - 1);
-        into[to] = i as u16;
-        i -= 1;
-    }
+// Rows, and for each state the number, plus one, of the first row into it; 0 where there is none: an Option would take
+// twice the room, and the arrays of a call are fixed.
+#[derive(Clone, Copy)]
+pub struct Marks<'a> {
+    pub few: FewRows<'a>,
+    pub into: &'a [u16; 1024],
+    ghost marked: { Marked few.rows.numbers.now into.now },
 }
 
-// A mark as a number.
-pub fn wide(x: u16) -> usize
-    ensures { (result ≡ x) × (result ≤ 65535) }
+// Marks each state with the number, plus one, of the first row into it.
+pub fn mark(few: FewRows, into: &mut [u16; 1024])
+    requires { Clear into.old }
+    ensures { Marked few.entry.rows.numbers.now into.new }
 {
-    x as usize
+    for i in (0..few.rows.count()).rev() {
+        into[few.rows.to(i)] = (i + 1) as u16;
+    }
 }

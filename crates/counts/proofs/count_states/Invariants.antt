@@ -1,4 +1,4 @@
--- The array holds the states of row i and those after it, and n counts them. Assumes nothing.
+-- The array holds the states of row i and those after it, and n counts them.
 use mathlib.Core.Path.{◌≡◌}
 use Prim.Native.Nat.{◌+◌, ◌/◌, ◌≤◌, ◌<◌}
 use lib.ListN.{length}
@@ -10,8 +10,6 @@ use Rattle.counts.proofs.count_states.Given as goal
 
 abbrev pub invariant-loop-i : goal.invariant-loop-i
 invariant-loop-i l =
-    (0 < l.n) × (l.n + l.i ≤ length l.rows / 4 + 1)
-    × Holds (seen_in (states (rest l.rows l.i))) l.seen × (l.n ≡ length (states (rest l.rows l.i)))
-
-abbrev pub decreases-loop-i : goal.decreases-loop-i
-decreases-loop-i l = l.i
+    (0 < l.n) × (l.n + l.i ≤ length l.few.rows.numbers.now / 4 + 1)
+    × Holds (seen_in (states (rest l.few.rows.numbers.now l.i))) l.seen
+    × (l.n ≡ length (states (rest l.few.rows.numbers.now l.i)))

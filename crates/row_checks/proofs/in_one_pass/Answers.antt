@@ -1,17 +1,18 @@
 -- `row_checks::in_one_pass` meets its contract. The loop's invariant: the rows before i fit, and Risen. Assumes nothing.
 use mathlib.Core.Path.{◌≡◌, refl, sym, ap, ◌∙◌}
-use mathlib.Core.Bool.{not}
+use mathlib.Core.Bool.{not, false}
 use mathlib.Core.Logic.{inl, inr}
 use Prim.Native.Nat.{◌+◌, ◌*◌}
 use native.Mathlib.Omega.{arith}
 use Rattle.paper.specs.declared.Refusal.TheVariants.{Range, Order}
-use Rattle.paper.specs.Checks.{row_fits, order}
-use Rattle.rows.specs.Places.{row_at, key}
+use Rattle.paper.specs.Rows.{rows_in}
+use Rattle.paper.specs.Checks.{every, row_fits, order}
+use Rattle.rows.specs.Places.{row_at, key, bare}
 use Rattle.rows.proofs.Rest.{every_next, every_fails, every_end}
-use Rattle.row_checks.proofs.Judged.{refuses, next_check, last_check}
+use Rattle.row_checks.proofs.Judged.{refuses, next_check, next_passes, taken, done}
 use Rattle.row_checks.proofs.OnePass as pass
 use Rattle.row_checks.proofs.in_one_pass.Goals as goal
-use Rattle.row_checks.proofs.in_one_pass.Goals.{then-key-above, else-key-above}
+use Rattle.row_checks.proofs.in_one_pass.Goals.{After-loop-i, then-key-above, else-key-above}
 
 pub loop-i-init : goal.loop-i-init
 loop-i-init c = (refl, refl, λ f. refl)
@@ -48,10 +49,17 @@ loop-i-preserved c =
           c.loop-i.invariant.2,
     )
 
-pub returns : goal.returns
+-- after the loop: 2 passes, and 3 is whether a row fell
+last : (c : After-loop-i) → (not (every row_fits (rows_in c.args.rows.now)) ≡ false)
+    × (order (bare c.args.rows.now) ≡ c.loop-i.falls)
 unfolding order
-returns c =
+last c =
     let ns = c.args.rows.now in
     let f = c.loop-i.invariant.0 ∙ every_end row_fits ns c.loop-i.i (omega arith) in
-    let e = pass.risen_last ns c.loop-i.falls c.loop-i.i (omega arith) c.loop-i.invariant.2 f in
-    next_check (ap not f) (last_check c.loop-i.falls Order refl refl e c.last.ensures)
+    (ap not f, pass.risen_last ns c.loop-i.falls c.loop-i.i (omega arith) c.loop-i.invariant.2 f)
+
+pub returns-then-falls : goal.returns-then-falls
+returns-then-falls c = let h = last c.before in next_check h.0 (refuses Order refl refl (h.1 ∙ c.if-falls.true))
+
+pub returns : goal.returns
+returns c = let h = last c.before in taken tt (next_passes h.0 (next_passes (h.1 ∙ c.if-falls.false) done))

@@ -1,6 +1,5 @@
 -- `row_checks::in_one_pass` meets its contract. The loop's invariant: the rows before i fit, and Risen. Assumes nothing.
 use mathlib.Core.Path.{◌≡◌}
-use Prim.Native.Nat.{◌-◌}
 use Rattle.paper.specs.Rows.{rows_in}
 use Rattle.paper.specs.Checks.{every, row_fits}
 use Rattle.rows.specs.Places.{rest}
@@ -12,6 +11,3 @@ invariant-loop-i l =
     (every row_fits (rows_in l.rows) ≡ every row_fits (rest l.rows l.i))
     × (l.above ≡ pass.above l.rows l.i)
     × pass.Risen l.rows l.falls l.i
-
-abbrev pub decreases-loop-i : goal.decreases-loop-i
-decreases-loop-i l = l.n - l.i

@@ -1,30 +1,36 @@
--- `row_checks::plain` meets its contract: prod0 and k, then the rows. Assumes nothing.
-use mathlib.Core.Path.{◌≡◌, refl, sym, ◌∙◌}
+-- prod0 and k, then the rows.
+use mathlib.Core.Path.{refl, sym, ◌∙◌}
+use Rattle.std.proofs.lemmas.Result.{err_from_is_err_and}
 use Rattle.paper.specs.declared.Refusal.TheVariants.{Range}
-use Rattle.paper.specs.Rows.{accepting, table}
-use Rattle.rows.specs.Places.{code}
-use Rattle.rows.proofs.Signed.{read_passed}
+use Rattle.paper.specs.Rows.{table}
+use Rattle.std.proofs.Common.{rules}
+use Rattle.rows.proofs.Signed.{same}
 use Rattle.rows.proofs.Fits.{head_out, rows_left}
-use Rattle.row_checks.proofs.Judged.{refuses, of_table}
+use Rattle.row_checks.proofs.Judged.{refuses, of_table, passes, same_verdict}
 use Rattle.row_checks.proofs.plain.Goals as goal
-use Rattle.row_checks.proofs.plain.Goals.{After-coded}
 
--- what was read of prod0
-read : (c : After-coded) → c.coded.result ≡ code (accepting c.args.prod0)
-read c =
-    (read_passed (λ z. code (accepting z)) c.args.prod0 _ c.ranges.prod0 c.coded.ensures).is
+pub returns-then-not-head_fits-clause-judges : goal.returns-then-not-head_fits-clause-judges
+returns-then-not-head_fits-clause-judges c =
+    let t = c.args.lent in
+    refuses Range refl refl (head_out (table t.prod0 t.k t.rows.now)
+    (rw (same t.prod0 (search rules)) at (sym c.head_fits.ensures ∙ c.if-not-head_fits.true)))
 
-pub returns-then-not-head_fits : goal.returns-then-not-head_fits
-returns-then-not-head_fits c =
-    let a = c.args in
-    refuses Range refl refl
-    (head_out (table a.prod0 a.k a.rows.now) _ (read c.before.before)
-    (sym c.head_fits.ensures ∙ c.if-not-head_fits.true))
+pub returns-in_err-in_one_pass-clause-judges : goal.returns-in_err-in_one_pass-clause-judges
+returns-in_err-in_one_pass-clause-judges c =
+    let t = c.args.lent in
+    let p = err_from_is_err_and c.from_residual.result c.from_residual.ensures.1 in
+    rw (p.1, p.2) (of_table t.prod0 t.k t.rows.now
+    (rows_left (table t.prod0 t.k t.rows.now)
+    (rw (same t.prod0 (search rules)) at (sym c.head_fits.ensures ∙ c.if-not-head_fits.false)))
+    (same_verdict _ c.in_err-in_one_pass.ensures))
 
-pub returns : goal.returns
-returns c =
-    let a = c.args in
-    of_table a.prod0 a.k a.rows.now
-    (rows_left (table a.prod0 a.k a.rows.now) _ (read c.before.before.before)
-    (sym c.head_fits.ensures ∙ c.if-not-head_fits.false))
-    c.in_one_pass.ensures
+pub invariant_of-result : goal.invariant_of-result
+invariant_of-result c =
+    let t = c.args.lent in
+    record {
+      sound = record {
+        checked = passes (of_table t.prod0 t.k t.rows.now
+            (rows_left (table t.prod0 t.k t.rows.now)
+            (rw (same t.prod0 (search rules)) at (sym c.head_fits.ensures ∙ c.if-not-head_fits.false))) c.in_ok-in_one_pass.ensures);
+      };
+    }

@@ -1,5 +1,4 @@
 use mathlib.Core.Path.{◌≡◌}
-use Prim.Native.Nat.{◌-◌}
 use Rattle.paper.specs.Rows.{Row, rows_in}
 use Rattle.paper.specs.Checks.{any}
 use lib.Dec.{leb}
@@ -12,6 +11,3 @@ falls r = leb r.to r.from
 
 abbrev pub invariant-loop-i : goal.invariant-loop-i
 invariant-loop-i l = any falls (rows_in l.rows) ≡ any falls (rest l.rows l.i)
-
-abbrev pub decreases-loop-i : goal.decreases-loop-i
-decreases-loop-i l = l.n - l.i

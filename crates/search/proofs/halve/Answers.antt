@@ -3,16 +3,16 @@ use Rattle.search.proofs.Bracket.{raised, sunk, met}
 use Rattle.search.proofs.halve.Goals as goal
 
 pub loop-low-init : goal.loop-low-init
-loop-low-init c = c.requires.1
+loop-low-init c = rw c.count-high.ensures c.requires
 
-pub key_at-requires : goal.key_at-requires
-key_at-requires c = (c.requires.0.fits, omega (arith, c.loop-low.invariant.within))
+pub key-requires : goal.key-requires
+key-requires c = omega (arith, c.loop-low.invariant.within)
 
-pub loop-low-preserved-then-key_at-x : goal.loop-low-preserved-then-key_at-x
-loop-low-preserved-then-key_at-x c = raised c.requires.0 c.loop-low.invariant _ (omega arith) (omega (arith, c.key_at.ensures))
+pub loop-low-preserved-then-key-x : goal.loop-low-preserved-then-key-x
+loop-low-preserved-then-key-x c = raised c.args.rows.passed c.loop-low.invariant _ (omega arith) (omega (arith, c.key.ensures))
 
 pub loop-low-preserved : goal.loop-low-preserved
-loop-low-preserved c = sunk c.requires.0 c.loop-low.invariant _ (omega arith) (omega arith) (omega (arith, c.key_at.ensures))
+loop-low-preserved c = sunk c.args.rows.passed c.loop-low.invariant _ (omega arith) (omega arith) (omega (arith, c.key.ensures))
 
 pub returns : goal.returns
 returns c = met c.loop-low.invariant c.loop-low-test.false

@@ -6,17 +6,11 @@ use Rattle.search.proofs.scan.Goals as goal
 pub loop-i-init : goal.loop-i-init
 loop-i-init c = (omega arith, none_passed _ _)
 
-pub key_at-requires : goal.key_at-requires
-key_at-requires c = (c.requires.0.fits, omega arith)
-
-pub returns-then-x-key_at : goal.returns-then-x-key_at
-returns-then-x-key_at c = record { within = omega arith; below = c.loop-i.invariant.1; here = λ h. omega (arith, c.key_at.ensures) }
-
-pub loop-i-smaller : goal.loop-i-smaller
-loop-i-smaller c = omega arith
+pub returns-then-x-key : goal.returns-then-x-key
+returns-then-x-key c = record { within = omega arith; below = c.loop-i.invariant.1; here = λ h. omega (arith, c.key.ensures) }
 
 pub loop-i-preserved : goal.loop-i-preserved
-loop-i-preserved c = (omega arith, one_passed c.loop-i.invariant.1 (omega (arith, c.key_at.ensures)))
+loop-i-preserved c = (omega arith, one_passed c.loop-i.invariant.1 (omega (arith, c.key.ensures)))
 
 pub returns : goal.returns
 returns c =

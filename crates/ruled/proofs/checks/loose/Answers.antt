@@ -10,24 +10,21 @@ use Rattle.ruled.proofs.checks.loose.Goals as goal
 pub loop-i-init : goal.loop-i-init
 loop-i-init c = refl
 
-pub hangs-requires : goal.hangs-requires
-hangs-requires c = (c.requires.0, c.requires.1, omega arith)
-
 pub returns-then-hangs : goal.returns-then-hangs
 unfolding loose
 returns-then-hangs c =
-    let ns = c.args.rows.now in
+    let ns = c.args.marks.few.rows.numbers.now in
     let e = sym c.hangs.ensures ∙ c.if-hangs.true in
     sym (c.loop-i.invariant ∙ any_here (hangs (rows_in ns)) ns c.loop-i.i (omega arith) e)
 
 pub loop-i-preserved : goal.loop-i-preserved
 loop-i-preserved c =
-    let ns = c.args.rows.now in
+    let ns = c.args.marks.few.rows.numbers.now in
     let e = sym c.hangs.ensures ∙ c.if-hangs.false in
     c.loop-i.invariant ∙ any_next (hangs (rows_in ns)) ns c.loop-i.i (omega arith) e
 
 pub returns : goal.returns
 unfolding loose
 returns c =
-    let ns = c.args.rows.now in
+    let ns = c.args.marks.few.rows.numbers.now in
     sym (c.loop-i.invariant ∙ any_end (hangs (rows_in ns)) ns c.loop-i.i (omega arith))

@@ -10,22 +10,19 @@ use Rattle.ruled.proofs.checks.split.Goals as goal
 pub loop-i-init : goal.loop-i-init
 loop-i-init c = refl
 
-pub differs-requires : goal.differs-requires
-differs-requires c = (c.requires.0, c.requires.1, omega arith)
-
 pub returns-then-differs : goal.returns-then-differs
 returns-then-differs c =
-    let ns = c.args.rows.now in
+    let ns = c.args.marks.few.rows.numbers.now in
     let e = sym c.differs.ensures ∙ c.if-differs.true in
     sym (split_first ns ∙ c.loop-i.invariant ∙ any_here (differs (rows_in ns)) ns c.loop-i.i (omega arith) e)
 
 pub loop-i-preserved : goal.loop-i-preserved
 loop-i-preserved c =
-    let ns = c.args.rows.now in
+    let ns = c.args.marks.few.rows.numbers.now in
     let e = sym c.differs.ensures ∙ c.if-differs.false in
     c.loop-i.invariant ∙ any_next (differs (rows_in ns)) ns c.loop-i.i (omega arith) e
 
 pub returns : goal.returns
 returns c =
-    let ns = c.args.rows.now in
+    let ns = c.args.marks.few.rows.numbers.now in
     sym (split_first ns ∙ c.loop-i.invariant ∙ any_end (differs (rows_in ns)) ns c.loop-i.i (omega arith))

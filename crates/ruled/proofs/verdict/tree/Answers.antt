@@ -1,32 +1,37 @@
--- The verdict of 2 to 6 stands where it refuses; else 7 decides. Assumes nothing.
-use mathlib.Core.Path.{refl, sym, ◌∙◌}
+-- The verdict of 2 to 6 stands where it refuses; else 7 decides.
+use mathlib.Core.Path.{refl, sym, ap, ◌∙◌}
 use mathlib.Core.List.{[], ◌∷◌}
-use Rattle.paper.specs.declared.Refusal.TheVariants.{Tree}
+use Rattle.std.proofs.lemmas.Result.{err_from_is_err_and}
+use Rattle.paper.specs.declared.Table.{Table}
+use Rattle.paper.specs.declared.Refusal.TheVariants as refusal
 use Rattle.paper.specs.Rows.{table}
-use Rattle.paper.specs.Checks.{ruled, no_tree}
-use Rattle.row_checks.proofs.Judged.{last_check}
-use Rattle.ruled.proofs.Judging.{judges_stop, judges_on, as_pass, passed_on, tree_rows}
-use Rattle.ruled.proofs.Passes.{fitting, ruled_passed, ruled_rows}
+use Rattle.paper.specs.Checks.{no_tree}
+use Rattle.row_checks.proofs.Judged.{passes, refuses, next_passes, done}
+use Rattle.ruled.proofs.Judging.{judges_stop, judges_on, passes_on, tree_rows}
 use Rattle.ruled.proofs.verdict.tree.Goals as goal
 
-pub returns-in_default : goal.returns-in_default
-returns-in_default c =
-    let a = c.args in
-    let j = passed_on ruled a.prod0 a.k a.rows.now c.ruled-v.result c.ranges.prod0 c.ruled-v.ensures in
-    judges_stop ((no_tree (table a.prod0 a.k a.rows.now), 7) ∷ []) j
-    c.in_default.field-0 c.in_default.is
+pub returns-in_err-table-clause-judges : goal.returns-in_err-table-clause-judges
+returns-in_err-table-clause-judges c =
+    let t = c.args.lent.table in
+    let p = err_from_is_err_and c.from_residual.result c.from_residual.ensures.1 in
+    rw (p.1, p.2) (judges_stop ((no_tree (table t.prod0 t.k t.rows.now), 7) ∷ []) _ c.in_err-table.ensures.judges)
 
-pub no_tree-requires : goal.no_tree-requires
-no_tree-requires c =
-    let a = c.args in
-    let j = passed_on ruled a.prod0 a.k a.rows.now c.ruled-v.result c.ranges.prod0 c.ruled-v.ensures in
-    let r = ruled_passed (table a.prod0 a.k a.rows.now) (as_pass c.in-Pass.is j) in
-    fitting (ruled_rows a.prod0 a.k a.rows.now r) c.requires
+pub returns-then-no_tree-clause-judges : goal.returns-then-no_tree-clause-judges
+returns-then-no_tree-clause-judges c =
+    let t = c.args.lent.table in
+    let e = c.few_rows.ensures ∙ ap (λ (x : Table). x.rows.now) c.in_ok-table.ensures.same in
+    judges_on ((no_tree (table t.prod0 t.k t.rows.now), 7) ∷ []) (passes c.in_ok-table.ensures.judges)
+    (refuses refusal.Tree refl refl
+    (tree_rows t.prod0 t.k t.rows.now ∙ rw e at (sym c.no_tree.ensures) ∙ c.if-no_tree.true))
 
-pub returns : goal.returns
-returns c =
-    let a = c.args in
-    let j = passed_on ruled a.prod0 a.k a.rows.now c.ruled-v.result c.ranges.prod0 c.ruled-v.ensures in
-    judges_on ((no_tree (table a.prod0 a.k a.rows.now), 7) ∷ []) j c.in-Pass.is
-    (last_check c.no_tree.result Tree refl refl
-    (tree_rows a.prod0 a.k a.rows.now ∙ sym c.no_tree.ensures) c.last.ensures)
+pub invariant_of-result : goal.invariant_of-result
+invariant_of-result c =
+    let t = c.args.lent.table in
+    let e = c.few_rows.ensures ∙ ap (λ (x : Table). x.rows.now) c.in_ok-table.ensures.same in
+    record {
+      sound = record {
+        checked = passes_on (passes c.in_ok-table.ensures.judges)
+            (next_passes (tree_rows t.prod0 t.k t.rows.now ∙ rw e at (sym c.no_tree.ensures) ∙ c.if-no_tree.false) done);
+        sized = c.args.lent.whole;
+      };
+    }
