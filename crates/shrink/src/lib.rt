@@ -1,16 +1,15 @@
 // Document 01, module 4: shrink.
 #![tactic(auto)]
 
-ghost use Rattle.std.specs.Prelude.{◌≤◌, length};
+ghost use Rattle.std.specs.Prelude.{◌≤◌, length, Ok};
 ghost use Rattle.paper.specs.Rows.{table};
 ghost use Rattle.paper.specs.Answers.{accept, Makes};
 ghost use Rattle.paper.specs.Shrink.{shrink, shrunk};
-ghost use Rattle.shrink_alike.specs.Faces.{given};
-ghost use Rattle.shrink_rows.specs.Output.{Shrunk, Sound};
+ghost use Rattle.rows.specs.Places.{given};
+ghost use Rattle.shrink_rows.specs.Output.{Shrunk};
 
-use paper::{Making, Mode, Production, Refusal};
-use row_checks::Verdict;
-use rows::numbers;
+use paper::{Heading, Mode, Refusal, Table};
+use ruled::Ruled;
 use shrink_alike::faces::{Faces, NO_STATE};
 use shrink_alike::index;
 use shrink_classes::classes;
@@ -19,14 +18,14 @@ use shrink_rows::emit::Numbered;
 // How many rows and states a shrunk table has.
 #[derive(Clone, Copy)]
 struct Sizes {
-    pub rows: usize,
-    pub states: usize,
+    rows: usize,
+    states: usize,
 }
 
 // Writes the shrunk table: the classes, their new numbers, the rows.
 fn write(faces: &Faces, out: &mut [i32]) -> Sizes
     requires { 16384 ≤ length out.old }
-    ensures { Shrunk faces.now.mode (given faces.now.prod0) faces.now.rows.now out.old out.new result.rows
+    ensures { Shrunk faces.now.mode (given faces.now.prod0) faces.now.rows.numbers.now out.old out.new result.rows
         result.states }
 {
     let mut class = [0u16; 1024];
@@ -44,50 +43,35 @@ fn write(faces: &Faces, out: &mut [i32]) -> Sizes
     }
 }
 
-// shim
-fn prod(x: i32) -> Option<Production> {
-    if x < 0 {
-        None
-    } else {
-        Some(Production(x as u16))
-    }
-}
-
 // Shrinks a table that passed 1 to 6.
-fn shrink_ruled(mode: Mode, prod0: i32, k: usize, rows: &[i32], out: &mut [i32]) -> Making
-    requires { Sound prod0 k rows.now × (16384 ≤ length out.old) }
-    ensures { Makes (accept (shrunk mode (table prod0 k rows.now))) result
-        out.old out.new }
+fn shrink_ruled(mode: Mode, lent: Ruled, out: &mut [i32]) -> Heading
+    requires { 16384 ≤ length out.old }
+    ensures { Makes (accept (shrunk mode (table lent.entry.table.prod0 lent.entry.table.k lent.entry.table.rows.now)))
+        (Ok result) out.old out.new }
 {
-    let n = (rows.len() / 4) as u16;
+    let few = lent.few_rows();
     let mut into = [0u16; 1024];
-    ruled::into::mark(rows, &mut into);
-    let mut first = [n; 1024];
-    index::firsts(rows, &mut first);
-    let faces = Faces::new(mode, prod(prod0), rows, &into, &first);
-    let sizes = write(&faces, out);
-    Making::Made {
-        prod0,
-        k,
+    ruled::into::mark(few, &mut into);
+    let mut first = [few.rows.count() as u16; 1024];
+    index::firsts(few, &mut first);
+    let sizes = write(&Faces::new(mode, lent, &into, &first), out);
+    Heading {
+        prod0: lent.table.prod0,
+        k: lent.table.k,
         rows: sizes.rows,
         states: sizes.states,
     }
 }
 
 // Shrink: the checks 1 to 6, then the classes.
-pub fn shrink(mode: Mode, prod0: i32, k: usize, rows: &[i32], out: &mut [i32]) -> Making
-    ensures { Makes (shrink mode prod0 k rows.now (length out.old)) result
+pub fn shrink(mode: Mode, lent: Table, out: &mut [i32]) -> Result<Heading, Refusal>
+    ensures { Makes (shrink mode lent.entry.prod0 lent.entry.k lent.entry.rows.now (length out.old)) result
         out.old out.new }
 {
-    if row_checks::row_slice(rows) {
-        return Making::Refused(Refusal::Length);
-    }
+    let measured = row_checks::sized(lent)?;
     if out.len() < 16384 {
-        return Making::Refused(Refusal::Length);
+        return Err(Refusal::Length);
     }
-    let verdict = ruled::verdict::ruled(prod0, k, rows);
-    match verdict {
-        Verdict::Refused(f) => Making::Refused(f),
-        Verdict::Pass => shrink_ruled(mode, prod0, k, rows, out),
-    }
+    let table = ruled::verdict::ruled(measured)?;
+    Ok(shrink_ruled(mode, table, out))
 }

@@ -6,19 +6,17 @@ use mathlib.Core.List.{List, [], ◌∷◌}
 use mathlib.Core.Option.{Option}
 use Prim.Native.Nat.{ℕ, ◌+◌, ◌*◌, ◌%◌, ◌<◌}
 use native.Mathlib.Omega.{arith}
-use borrow.Author.Tests.{eq-eqb, ne_eqb}
 use lib.IntN.{ℤ}
 use Rattle.paper.specs.declared.Mode.{Mode}
 use Rattle.paper.specs.Rows.{Table, rows_in}
 use Rattle.paper.specs.Checks.{same_production}
 use Rattle.paper.specs.Shrink.{rows_of, redirect, same_rows}
-use Rattle.rows.specs.Places.{row_at, rest, code, uncoded}
-use Rattle.ruled.proofs.Splits.{code_same}
+use Rattle.rows.specs.Places.{row_at, rest, code}
+use Rattle.laws.proofs.Productions.{same_production_eq}
 use Rattle.merging.specs.Marks.{compared}
 use Rattle.shrink_alike.specs.Index.{leaves}
 use Rattle.shrink_alike.specs.Faces.{coded, counted, like, hash, sign, same_row, rows_alike, production_at}
 use Rattle.shrink_alike.proofs.Begins.{Standing, Walk, stand_end, stand_row}
-use Rattle.rows.proofs.Codes.{uncoded_code}
 
 -- a number stays below 65,521
 pub hash_small : (h : ℕ) (os : List (ℕ × ℕ)) → h < 65521 → hash h os < 65521
@@ -109,25 +107,18 @@ module _ (mode : Mode) (p : Option ℕ) (ns : List ℤ) (mark : ℕ → ℕ) whe
     sign_alone c = rw e (rw (counted_no s (rw e at c)))
 
   module _ (a b : ℕ) where
-    pub like_not : (production_at t a ≡ production_at t b → ⊥) → false ≡ like mode t mark a b
+    pub like_not : same_production (production_at t a) (production_at t b) ≡ false → false ≡ like mode t mark a b
     unfolding like
-    like_not d =
-        let q : same_production (production_at t a) (production_at t b) ≡ false =
-        sym (code_same (production_at t a) (production_at t b))
-        ∙ ne_eqb (code (production_at t a)) (code (production_at t b))
-        (λ z. d (sym (uncoded_code (production_at t a)) ∙ ap uncoded z ∙ uncoded_code (production_at t b))) in
-        rw q
+    like_not d = rw d
 
-    module _ (g : production_at t a ≡ production_at t b) where
-      one : same_production (production_at t a) (production_at t b) ≡ true
-      one =
-          sym (code_same (production_at t a) (production_at t b))
-          ∙ eq-eqb (code (production_at t a)) (code (production_at t b)) (ap code g)
+    module _ (g : same_production (production_at t a) (production_at t b) ≡ true) where
+      one : production_at t a ≡ production_at t b
+      one = same_production_eq (production_at t a) (production_at t b) g
 
       pub like_cut : compared mode (production_at t a) ≡ false → true ≡ like mode t mark a b
       unfolding like same_rows
-      like_cut c = rw (one, counted_no a c, counted_no b (rw g at c))
+      like_cut c = rw (g, counted_no a c, counted_no b (rw one at c))
 
       pub like_rows : compared mode (production_at t a) ≡ true → rows_alike ns mark a b ≡ like mode t mark a b
       unfolding like
-      like_rows c = rw (one, counted_yes a c, counted_yes b (rw g at c))
+      like_rows c = rw (g, counted_yes a c, counted_yes b (rw one at c))

@@ -1,19 +1,12 @@
 -- What two states that become one have in common: production and, where rows count, rows by their marks.
-use Rattle.std.specs.Prelude.{Bool, cond, ◌&&◌, List, [], ◌∷◌, ℕ, ◌+◌, ◌*◌, ◌%◌, eqb, get_or, ℤ, None, Some}
-use Rattle.std.specs.Prelude.{Option as Optional}
-use Rattle.std.proofs.Math.Option.{Option, none, some}
-use Rattle.paper.specs.declared.Production.{Production}
+use Rattle.std.specs.Prelude.{Bool, cond, ◌&&◌, List, [], ◌∷◌, ℕ, ◌+◌, ◌*◌, ◌%◌, eqb, get_or, ℤ}
+use Rattle.std.proofs.Math.Option.{Option}
 use Rattle.paper.specs.declared.Mode.{Mode}
 use Rattle.paper.specs.Rows.{Table, rows_in}
 use Rattle.paper.specs.Checks.{same_production}
 use Rattle.paper.specs.Shrink.{production_of, rows_of, redirect, same_rows}
 use Rattle.rows.specs.Places.{code, row_at}
 use Rattle.merging.specs.Marks.{compared}
-
--- shim
-abbrev pub given : Optional Production → Option ℕ
-given None = none
-given (Some p) = some p.0
 
 -- The table of a prod0 and the numbers of a row slice.
 abbrev pub coded : Option ℕ → List ℤ → Table

@@ -2,13 +2,12 @@
 ghost use Rattle.std.specs.Prelude.{◌≡◌, ◌/◌, ◌<◌, ◌≤◌, length};
 ghost use Rattle.paper.specs.Rows.{rows_in};
 ghost use Rattle.paper.specs.Shrink.{rows_of, redirect};
-ghost use Rattle.rows.specs.Places.{code};
+ghost use Rattle.rows.specs.Places.{code, given};
 ghost use Rattle.merging.specs.Marks.{compared};
-ghost use Rattle.shrink_alike.specs.Faces.{given, mark_in, like, hash, sign, same_row, rows_alike};
+ghost use Rattle.shrink_alike.specs.Faces.{mark_in, like, hash, sign, same_row, rows_alike};
 
 use crate::faces::Faces;
 use paper::{Mode, Production};
-use rows::numbers;
 
 // The code of a production: 0 for none, else one more than it.
 fn code(p: Option<Production>) -> usize
@@ -35,15 +34,14 @@ impl<'a> Faces<'a> {
         requires { (s < 1024) × (h < 65521) }
         ensures small { result < 65521 }
         ensures value { result
-            ≡ hash h (redirect (mark_in class.now) (rows_of (rows_in self.now.rows.now) s)) }
+            ≡ hash h (redirect (mark_in class.now) (rows_of (rows_in self.now.rows.numbers.now) s)) }
     {
         let mut r = h;
-        for i in self.first[s] as usize..self.rows.len() / 4 {
-            if numbers::from_at(self.rows, i) != s {
+        for i in self.first[s] as usize..self.rows.count() {
+            if self.rows.from(i) != s {
                 break;
             }
-            r = (r * 27191 + numbers::terminal_at(self.rows, i) * 40493 + self.to_mark(class, i))
-                % 65521;
+            r = (r * 27191 + self.rows.terminal(i) * 40493 + self.to_mark(class, i)) % 65521;
         }
         r
     }
@@ -65,21 +63,21 @@ impl<'a> Faces<'a> {
 
     // Rows i and j have one terminal and lead to one mark.
     fn same_row(&self, class: &[u16; 1024], i: usize, j: usize) -> bool
-        requires { (i < length self.now.rows.now / 4) × (j < length self.now.rows.now / 4) }
-        ensures { result ≡ same_row self.now.rows.now (mark_in class.now) i j }
+        requires { (i < length self.now.rows.numbers.now / 4) × (j < length self.now.rows.numbers.now / 4) }
+        ensures { result ≡ same_row self.now.rows.numbers.now (mark_in class.now) i j }
     {
-        numbers::terminal_at(self.rows, i) == numbers::terminal_at(self.rows, j)
+        self.rows.terminal(i) == self.rows.terminal(j)
             && self.to_mark(class, i) == self.to_mark(class, j)
     }
 
     // The states a and b have equal rows by marks.
     fn same_rows(&self, class: &[u16; 1024], a: usize, b: usize) -> bool
         requires { (a < 1024) × (b < 1024) }
-        ensures { result ≡ rows_alike self.now.rows.now (mark_in class.now) a b }
+        ensures { result ≡ rows_alike self.now.rows.numbers.now (mark_in class.now) a b }
     {
         let mut j = self.first[b] as usize;
-        for i in self.first[a] as usize..self.rows.len() / 4 {
-            if numbers::from_at(self.rows, i) != a {
+        for i in self.first[a] as usize..self.rows.count() {
+            if self.rows.from(i) != a {
                 break;
             }
             if !self.leaves(b, j) || !self.same_row(class, i, j) {
@@ -96,6 +94,6 @@ impl<'a> Faces<'a> {
         ensures { result ≡ like self.now.mode (table_of self.now) (mark_in class.now) a b }
     {
         let p = self.production(a);
-        code(p) == code(self.production(b)) && (!self.compared(p) || self.same_rows(class, a, b))
+        p == self.production(b) && (!self.compared(p) || self.same_rows(class, a, b))
     }
 }

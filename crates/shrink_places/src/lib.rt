@@ -25,9 +25,9 @@ fn place(class: &[u16; 1024], number: &mut [u16; 1024], s: usize, m: usize) -> u
 
 // Numbers the marks, upward; how many there are.
 pub fn places(faces: &Faces, class: &[u16; 1024], number: &mut [u16; 1024]) -> usize
-    requires { Named (coded none faces.now.rows.now) class.now × Holds (λ s. 65535) number.old }
-    ensures { Placed (coded none faces.now.rows.now) class.now number.new
-        × (result ≡ length (heads_of (mark_in class.now) (coded none faces.now.rows.now))) }
+    requires { Named (coded none faces.now.rows.numbers.now) class.now × Holds (λ s. 65535) number.old }
+    ensures { Placed (coded none faces.now.rows.numbers.now) class.now number.new
+        × (result ≡ length (heads_of (mark_in class.now) (coded none faces.now.rows.numbers.now))) }
 {
     let mut m = 0;
     for s in 0..faces.top {

@@ -19,42 +19,35 @@ pub struct Numbered<'a> {
     pub faces: &'a Faces<'a>,
     pub class: &'a [u16; 1024],
     pub number: &'a [u16; 1024],
-    ghost named: { Named (coded none faces.now.rows.now) class.now },
-    ghost placed: { Placed (coded none faces.now.rows.now) class.now number.now },
+    ghost named: { Named (coded none faces.now.rows.numbers.now) class.now },
+    ghost placed: { Placed (coded none faces.now.rows.numbers.now) class.now number.now },
 }
 
 impl<'a> Numbered<'a> {
     // Row i, from the new number f, as row o of the output.
     fn emit_row(&self, f: usize, i: usize, o: usize, out: &mut [i32])
-        requires { (f ≤ 65535) × (i < length self.now.faces.now.rows.now / 4) × (o < 4096)
+        requires { (f ≤ 65535) × (i < length self.now.faces.now.rows.numbers.now / 4) × (o < 4096)
             × (o * 4 + 4 ≤ length out.old) }
         ensures { Written out.old out.new o (o + 1)
-            (new_row self.now.faces.now.rows.now self.now.class.now self.now.number.now f i ∷ []) }
+            (new_row self.now.faces.now.rows.numbers.now self.now.class.now self.now.number.now f i ∷ []) }
     {
         let rows = self.faces.rows;
         let to = self.number[self.faces.to_mark(self.class, i)] as usize;
-        numbers::put_row(
-            out,
-            o * 4,
-            f,
-            numbers::terminal_at(rows, i),
-            to,
-            numbers::code_at(rows, i),
-        );
+        numbers::put_row(out, o * 4, f, rows.terminal(i), to, rows.production(i));
     }
 
     // The rows of state h, from the new number f, from row at of the output on; the row after them.
     fn emit_state(&self, h: usize, f: usize, at: usize, out: &mut [i32]) -> usize
         requires { (h < 1024) × (f ≤ 65535)
-            × (at + length (rows_of (rows_in self.now.faces.now.rows.now) h) ≤ 4096)
+            × (at + length (rows_of (rows_in self.now.faces.now.rows.numbers.now) h) ≤ 4096)
             × (16384 ≤ length out.old) }
-        ensures { Emitted self.now.faces.now.rows.now self.now.class.now self.now.number.now h f out.old out.new
+        ensures { Emitted self.now.faces.now.rows.numbers.now self.now.class.now self.now.number.now h f out.old out.new
             at result }
     {
         let rows = self.faces.rows;
         let mut o = at;
-        for i in self.faces.first[h] as usize..rows.len() / 4 {
-            if numbers::from_at(rows, i) != h {
+        for i in self.faces.first[h] as usize..rows.count() {
+            if rows.from(i) != h {
                 break;
             }
             self.emit_row(f, i, o, out);
@@ -66,9 +59,9 @@ impl<'a> Numbered<'a> {
     // s is the lowest state of its class, where m is the next new number.
     fn is_head(&self, s: usize, m: usize) -> bool
         requires { (s < 1024)
-            × (m ≡ place_among (heads_of (mark_in self.now.class.now) (coded none self.now.faces.now.rows.now)) s) }
+            × (m ≡ place_among (heads_of (mark_in self.now.class.now) (coded none self.now.faces.now.rows.numbers.now)) s) }
         ensures { Tells
-            (Memᴰ s (heads_of (mark_in self.now.class.now) (coded none self.now.faces.now.rows.now))) result }
+            (Memᴰ s (heads_of (mark_in self.now.class.now) (coded none self.now.faces.now.rows.numbers.now))) result }
     {
         self.faces.is_state(s) && self.number[self.class[s] as usize] as usize == m
     }
@@ -77,7 +70,7 @@ impl<'a> Numbered<'a> {
     pub fn emit(&self, out: &mut [i32]) -> usize
         requires { 16384 ≤ length out.old }
         ensures { Written out.old out.new 0 result
-            (all_rows (mark_in self.now.class.now) (coded none self.now.faces.now.rows.now)) }
+            (all_rows (mark_in self.now.class.now) (coded none self.now.faces.now.rows.numbers.now)) }
     {
         let mut m = 0;
         let mut o = 0;

@@ -1,17 +1,9 @@
 -- The slots that a walk meets: within 1,024 steps, every one, since a step is odd.
 -- Assumes nothing.
 use mathlib.Core.Path.{◌≡◌, sym, ap, ◌∙◌, subst}
-use Prim.Native.Nat.{ℕ, zero, suc, ◌+◌, ◌*◌, ◌/◌, ◌%◌, ◌^◌, ◌<◌, ◌≤◌}
+use Prim.Native.Nat.{ℕ, zero, suc, ◌+◌, ◌*◌, ◌/◌, ◌%◌, ◌^◌, ◌<◌}
 use native.Mathlib.Omega.{arith}
-use native.Mathlib.Nat.{
-  add-mul,
-  mul_comm,
-  mul-le-mul,
-  add-mul-div_right,
-  add-mul-mod_self_right,
-  mod-eq_of_lt,
-  pow-succ',
-}
+use native.Mathlib.Nat.{add-mul, mul_comm, add-mul-div_right, add-mul-mod_self_right, mod-eq_of_lt, pow-succ'}
 use lib.Arith.{mod-mul}
 use lib.Pow.{pow_pos}
 use Rattle.counts.proofs.Arrays.{by_equal}

@@ -1,5 +1,5 @@
-use Rattle.ruled.proofs.Passes.{fitting}
-use Rattle.shrink_alike.specs.Faces.{given}
+use Rattle.counts.proofs.Arrays.{fitting}
+use Rattle.rows.specs.Places.{given}
 use Rattle.shrink_alike.proofs.Begins.{filled}
 use Rattle.shrink.proofs.Parts.{classes_named}
 use Rattle.shrink.proofs.write.Goals as goal
@@ -8,14 +8,14 @@ pub places-states-requires : goal.places-states-requires
 places-states-requires c =
     let f = c.args.faces.now in
     let i = f.indexed.0 in
-    (classes_named f.mode (given f.prod0) f.rows.now _ (fitting i.passed i.few) c.classes.ensures, filled 65535)
+    (classes_named f.mode (given f.prod0) f.rows.numbers.now _ (fitting i.passed i.few) c.classes.ensures, filled 65535)
 
 pub invariant_of-numbered : goal.invariant_of-numbered
 invariant_of-numbered c =
     let f = c.args.faces.now in
     let i = f.indexed.0 in
     record {
-      named = classes_named f.mode (given f.prod0) f.rows.now _ (fitting i.passed i.few) c.classes.ensures;
+      named = classes_named f.mode (given f.prod0) f.rows.numbers.now _ (fitting i.passed i.few) c.classes.ensures;
       placed = c.places-states.ensures.0;
     }
 

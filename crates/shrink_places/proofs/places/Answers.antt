@@ -8,12 +8,12 @@ use Rattle.shrink_places.proofs.places.Goals as goal
 use Rattle.shrink_places.proofs.places.Goals.{then-is_state, else-is_state}
 
 pub loop-s-init : goal.loop-s-init
-loop-s-init c = count_start (coded none c.args.faces.now.rows.now) c.args.class.now c.args.number.now c.requires.1
+loop-s-init c = count_start (coded none c.args.faces.now.rows.numbers.now) c.args.class.now c.args.number.now c.requires.1
 
 pub place-m-requires : goal.place-m-requires
 place-m-requires c =
     let f = c.args.faces.now in
-    let t = coded none f.rows.now in
+    let t = coded none f.rows.numbers.now in
     let p = place_low (heads_of (mark_in c.args.class.now) t) (heads_rise t c.args.class.now) c.loop-s.s in (
       omega (arith, f.topped.few),
       c.requires.0.small c.loop-s.s (c.is_state.ensures.yes c.if-is_state.true),
@@ -23,7 +23,7 @@ place-m-requires c =
 pub loop-s-preserved : goal.loop-s-preserved
 loop-s-preserved c =
     let f = c.args.faces.now in
-    let t = coded none f.rows.now in
+    let t = coded none f.rows.numbers.now in
     elim c.if-is_state.branch [
       | then-is_state w ↦
           rw (w.number-is, w.m-is) (count_more t c.args.class.now c.requires.0 f.top f.topped c.loop-s.number _
@@ -37,5 +37,5 @@ loop-s-preserved c =
 pub returns : goal.returns
 returns c =
     let f = c.args.faces.now in
-    count_end (coded none f.rows.now) c.args.class.now f.top f.topped c.loop-s.number c.loop-s.m c.loop-s.s
+    count_end (coded none f.rows.numbers.now) c.args.class.now f.top f.topped c.loop-s.number c.loop-s.m c.loop-s.s
     c.loop-s.invariant (omega arith)

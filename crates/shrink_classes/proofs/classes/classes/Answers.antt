@@ -3,7 +3,7 @@ use mathlib.Core.Option.{none}
 use Prim.Native.Nat.{◌+◌, ◌-◌}
 use native.Mathlib.Omega.{arith}
 use Rattle.paper.specs.Rows.{rows_in}
-use Rattle.shrink_alike.specs.Faces.{given}
+use Rattle.rows.specs.Places.{given}
 use Rattle.shrink_alike.specs.Tables.{table_of}
 use Rattle.shrink_alike.proofs.Bare.{shape_rows}
 use Rattle.shrink_alike.proofs.Begins.{filled}
@@ -19,5 +19,5 @@ pub loop-s-preserved-then-is_state : goal.loop-s-preserved-then-is_state
 loop-s-preserved-then-is_state c =
     let f = c.args.faces.now in
     let e : c.loop-s.s ≡ c.loop-s.s - 1 + 1 = omega arith in
-    pass_more f.mode (table_of f) (shape_rows none (given f.prod0) 0 0 (rows_in f.rows.now) f.climbs) f.top f.topped c.loop-s.slots c.loop-s.class _ _ (c.loop-s.s - 1)
+    pass_more f.mode (table_of f) (shape_rows none (given f.prod0) 0 0 (rows_in f.rows.numbers.now) f.climbs) f.top f.topped c.loop-s.slots c.loop-s.class _ _ (c.loop-s.s - 1)
     (rw e at c.loop-s.invariant) (c.is_state.ensures.yes c.if-is_state.true) c.settle.ensures

@@ -1,6 +1,5 @@
-use mathlib.Core.Path.{refl, ◌∙◌}
+use mathlib.Core.Path.{refl}
 use borrow.Author.Tests.{eq-eqb}
-use lib.ListN.{get_or}
 use Rattle.shrink_slots.specs.Slots.{alike_in}
 use Rattle.shrink_slots.proofs.Slotted.{passes_empty, passes_held}
 use Rattle.shrink_slots.proofs.Slots.passes.Goals as goal

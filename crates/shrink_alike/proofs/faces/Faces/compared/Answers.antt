@@ -5,7 +5,7 @@ use Rattle.std.specs.Option.{is_some}
 use Rattle.paper.specs.declared.Mode.TheVariants.{Archive}
 use Rattle.paper.specs.declared.Production.{Production}
 use Rattle.merging.specs.Marks.{compared}
-use Rattle.shrink_alike.specs.Faces.{given}
+use Rattle.rows.specs.Places.{given}
 use Rattle.shrink_alike.proofs.faces.Faces.compared.Goals as goal
 
 in_archive : (p : Option Production) (b : Bool) → is_some p ≡ not b → b ≡ compared Archive (given p)

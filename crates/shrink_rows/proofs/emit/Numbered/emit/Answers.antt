@@ -12,19 +12,19 @@ use Rattle.shrink_rows.proofs.emit.Numbered.emit.Goals.{then-is_head, else-is_he
 pub loop-s-init : goal.loop-s-init
 loop-s-init c =
     let n = c.args.self.now in
-    (sym (place_zero _), heads_start n.faces.now.rows.now n.class.now n.number.now n.named c.args.out.now)
+    (sym (place_zero _), heads_start n.faces.now.rows.numbers.now n.class.now n.number.now n.named c.args.out.now)
 
 pub emit_state-o-requires : goal.emit_state-o-requires
 emit_state-o-requires c =
     let n = c.args.self.now in
     let f = n.faces.now in
-    let t = coded none f.rows.now in
+    let t = coded none f.rows.numbers.now in
     let w = c.loop-s.invariant in
     let b = c.is_head.ensures.yes c.if-is_head.true in
     let p = place_low (heads_of (mark_in n.class.now) t) (heads_rise t n.class.now) c.loop-s.s in (
       n.named.small c.loop-s.s (head_state t n.class.now c.loop-s.s b),
       omega (arith, w.0, p, f.topped.few),
-      heads_room f.rows.now n.class.now n.number.now n.named n.placed c.loop-s.s c.loop-s.m b w.0 c.args.out.now
+      heads_room f.rows.numbers.now n.class.now n.number.now n.named n.placed c.loop-s.s c.loop-s.m b w.0 c.args.out.now
           c.loop-s.out c.loop-s.o w.1 f.indexed.0.few,
       omega (arith, w.1.sized, c.requires),
     )
@@ -32,14 +32,14 @@ emit_state-o-requires c =
 pub overflow_add-m : goal.overflow_add-m
 overflow_add-m c =
     let n = c.args.self.now in
-    let t = coded none n.faces.now.rows.now in
+    let t = coded none n.faces.now.rows.numbers.now in
     let p = place_low (heads_of (mark_in n.class.now) t) (heads_rise t n.class.now) c.loop-s.s in
     omega (arith, c.loop-s.invariant.0, p, n.faces.now.topped.few)
 
 pub loop-s-preserved : goal.loop-s-preserved
 loop-s-preserved c =
     let n = c.args.self.now in
-    let ns = n.faces.now.rows.now in
+    let ns = n.faces.now.rows.numbers.now in
     let s = c.loop-s.s in
     let m = c.loop-s.m in
     let i = c.loop-s.invariant in
@@ -63,5 +63,5 @@ pub returns : goal.returns
 returns c =
     let n = c.args.self.now in
     let f = n.faces.now in
-    heads_end f.rows.now n.class.now n.number.now n.named f.top f.topped c.args.out.now c.loop-s.out c.loop-s.o
+    heads_end f.rows.numbers.now n.class.now n.number.now n.named f.top f.topped c.args.out.now c.loop-s.out c.loop-s.o
     c.loop-s.s (omega arith) c.loop-s.invariant.1

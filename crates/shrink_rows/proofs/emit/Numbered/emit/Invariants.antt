@@ -8,5 +8,5 @@ use Rattle.shrink_rows.proofs.emit.Numbered.emit.Given as goal
 
 abbrev pub invariant-loop-s : goal.invariant-loop-s
 invariant-loop-s l =
-    (l.m ≡ place_among (heads_of (mark_in l.self.class.now) (coded none l.self.faces.now.rows.now)) l.s)
-    × Written l.initial.out l.out 0 l.o (rows_below l.self.faces.now.rows.now l.self.class.now l.s)
+    (l.m ≡ place_among (heads_of (mark_in l.self.class.now) (coded none l.self.faces.now.rows.numbers.now)) l.s)
+    × Written l.initial.out l.out 0 l.o (rows_below l.self.faces.now.rows.numbers.now l.self.class.now l.s)

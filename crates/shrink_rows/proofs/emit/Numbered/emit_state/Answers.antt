@@ -8,18 +8,18 @@ pub loop-i-init : goal.loop-i-init
 loop-i-init c =
     let n = c.args.self.now in
     let f = n.faces.now in
-    emit_start f.rows.now n.class.now n.number.now c.args.h c.args.f c.args.out.now c.args.at _
+    emit_start f.rows.numbers.now n.class.now n.number.now c.args.h c.args.f c.args.out.now c.args.at _
     (walk_begins f.indexed.0 c.args.h c.requires.0)
 
 pub emit_row-requires : goal.emit_row-requires
 emit_row-requires c =
     let n = c.args.self.now in
     let f = n.faces.now in
-    let e = leaves_at f.rows.now c.args.h c.loop-i.i c.loop-i-test.true (sym c.from_at.ensures.is ∙ c.if-from_at-h.false) in
-    let r = emit_room f.rows.now n.class.now n.number.now c.args.h c.args.f c.args.out.now c.loop-i.out c.args.at
+    let e = leaves_at f.rows.numbers.now c.args.h c.loop-i.i (omega arith) (sym c.from.ensures.0 ∙ c.if-from-h.false) in
+    let r = emit_room f.rows.numbers.now n.class.now n.number.now c.args.h c.args.f c.args.out.now c.loop-i.out c.args.at
     c.loop-i.o c.loop-i.i c.loop-i.invariant e f.whole in (
       c.requires.1,
-      c.loop-i-test.true,
+      omega arith,
       omega (arith, r, c.requires.2),
       omega (arith, r, c.requires.2, c.requires.3, c.loop-i.invariant.written.sized),
     )
@@ -28,22 +28,22 @@ pub loop-i-preserved : goal.loop-i-preserved
 loop-i-preserved c =
     let n = c.args.self.now in
     let f = n.faces.now in
-    let e = leaves_at f.rows.now c.args.h c.loop-i.i c.loop-i-test.true (sym c.from_at.ensures.is ∙ c.if-from_at-h.false) in
-    emit_next f.rows.now n.class.now n.number.now c.args.h c.args.f c.args.out.now c.loop-i.out c.args.at
+    let e = leaves_at f.rows.numbers.now c.args.h c.loop-i.i (omega arith) (sym c.from.ensures.0 ∙ c.if-from-h.false) in
+    emit_next f.rows.numbers.now n.class.now n.number.now c.args.h c.args.f c.args.out.now c.loop-i.out c.args.at
     c.loop-i.o c.loop-i.i c.loop-i.invariant e f.whole _
     (stand_next c.loop-i.invariant.stands f.indexed.0.passed e) c.emit_row.ensures
 
 pub returns-after-loop-i : goal.returns-after-loop-i
 returns-after-loop-i c =
     let n = c.args.self.now in
-    let ns = n.faces.now.rows.now in
+    let ns = n.faces.now.rows.numbers.now in
     emit_end ns n.class.now n.number.now c.args.h c.args.f c.args.out.now c.loop-i.out c.args.at
-    c.loop-i.o c.loop-i.i c.loop-i.invariant (leaves_past ns c.args.h c.loop-i.i c.loop-i-test.false)
+    c.loop-i.o c.loop-i.i c.loop-i.invariant (leaves_past ns c.args.h c.loop-i.i (omega arith))
 
-pub returns-then-from_at-h : goal.returns-then-from_at-h
-returns-then-from_at-h c =
+pub returns-then-from-h : goal.returns-then-from-h
+returns-then-from-h c =
     let n = c.args.self.now in
-    let ns = n.faces.now.rows.now in
+    let ns = n.faces.now.rows.numbers.now in
     emit_end ns n.class.now n.number.now c.args.h c.args.f c.args.out.now c.loop-i.out c.args.at
     c.loop-i.o c.loop-i.i c.loop-i.invariant
-    (leaves_other ns c.args.h c.loop-i.i (λ q. c.if-from_at-h.true (c.from_at.ensures.is ∙ q)))
+    (leaves_other ns c.args.h c.loop-i.i (λ q. c.if-from-h.true (c.from.ensures.0 ∙ q)))
