@@ -2,28 +2,24 @@
 ghost use Rattle.std.specs.Prelude.{◌≡◌};
 ghost use Rattle.intake_lists.specs.Call.{lists_lengths};
 
-// 1 LENGTH.
-pub fn lengths(
-    productions: &[i32],
-    counts: &[usize],
-    lengths: &[usize],
-    tokens: &[u16],
-    room: usize,
-) -> bool
-    ensures { result ≡ lists_lengths productions.now counts.now lengths.now
-        tokens.now room }
+use intake_lists::StringLists;
+
+// 1 LENGTH: true when it refuses.
+pub fn lengths(lists: StringLists, room: usize) -> bool
+    ensures { result ≡ lists_lengths lists.entry.productions.now lists.entry.counts.now lists.entry.lengths.now
+        lists.entry.tokens.now room }
 {
     if room < 16384 {
         return true;
     }
-    if productions.len() == 0 {
+    if lists.productions.is_empty() {
         return true;
     }
-    if productions.len() != counts.len() {
+    if lists.productions.len() != lists.counts.len() {
         return true;
     }
-    if !build_checks::sums(counts, lengths.len()) {
+    if !build_checks::sums(lists.counts, lists.lengths.len()) {
         return true;
     }
-    !build_checks::sums(lengths, tokens.len())
+    !build_checks::sums(lists.lengths, lists.tokens.len())
 }

@@ -1,48 +1,25 @@
-// One more list: it is built, and united to what there is, in lent arrays.
+// One more list: it is built, and united to what there is, in arrays that the caller holds.
 #![tactic(auto)]
 
+ghost use Rattle.std.specs.Prelude.{Ok};
 ghost use Rattle.paper.specs.Answers.{then};
 ghost use Rattle.intake_lists.specs.Call.{join_lent};
-ghost use Rattle.intake_lists.specs.Held.{held, Holds, Ready};
+ghost use Rattle.intake_lists.specs.Held.{held, answered, Holds};
+ghost use Rattle.intake_lists.specs.Split.{list_of};
 
-use paper::Making;
+use intake_steps::{Kept, Room};
+use paper::{Refusal, StringList};
 
 // One more list, built and united to what there is.
 pub fn join_list(
-    last: Making,
-    production: i32,
-    tokens: &[u16],
-    lengths: &[usize],
-    a: &mut [i32],
-    b: &mut [i32],
-    work: &mut [i32],
-) -> Making
-    requires { Ready last a.old b.old work.old }
-    ensures { Holds (then (held last a.old) (λ m. join_lent m (record {
-      production = production;
-      lengths = lengths.now;
-      tokens = tokens.now;
-    })))
-        result a.new }
+    list: StringList,
+    so_far: &mut Kept,
+    next: &mut Kept,
+    work: &mut Room,
+) -> Result<(), Refusal>
+    ensures { Holds (then (held (Ok so_far.old.heading) so_far.old.buf) (λ m. join_lent m (list_of list.entry)))
+        (answered result so_far.new.heading) so_far.new.buf }
 {
-    let Making::Made {
-        prod0: p,
-        k,
-        rows: n,
-        states: _,
-    } = last
-    else {
-        return last;
-    };
-    let next = intake_steps::build_list(production, tokens, lengths, b, work);
-    let Making::Made {
-        prod0: q,
-        k: l,
-        rows: m,
-        states: _,
-    } = next
-    else {
-        return next;
-    };
-    intake_steps::unite_two(p, k, n, q, l, m, a, b, work)
+    intake_steps::build_list(list, next, work)?;
+    intake_steps::unite_two(so_far, next.lent(), work)
 }

@@ -12,6 +12,11 @@ abbrev pub held : Result Heading Refusal → List ℤ → Ruling Made
 held (Ok h) buf = accept (record { table = table h.prod0 h.k (take (h.rows * 4) buf); states = h.states })
 held (Err r) buf = refuse (number r) (detail r)
 
+-- The answer of a step that keeps its table: the table's heading, or the refusal.
+abbrev pub answered : Result Unit Refusal → Heading → Result Heading Refusal
+answered (Ok u) h = Ok h
+answered (Err r) h = Err r
+
 -- Of a table that was made: at most 1,023 rows, and a prod0 that an i32 holds.
 abbrev pub Few : Result Heading Refusal → Type 0
 Few (Ok h) = (h.rows ≤ 1023) × (mag h.prod0 < 2 ^ 31)
@@ -21,17 +26,6 @@ Few (Err r) = Unit
 pub record Holds (ruling : Ruling Made) (answer : Result Heading Refusal) (buf : List ℤ) : Type 0 where
   pub is : held answer buf ≡ ruling
   pub few : Few answer
-
--- An array with room for 1,023 rows, and one that build, unite and shrink write to.
-pub record Room (buf work : List ℤ) : Type 0 where
-  pub small : 4092 ≤ length buf
-  pub large : length work ≡ 16384
-
--- An answer whose rows stand in a, with an array b for the next list.
-pub record Ready (answer : Result Heading Refusal) (a b work : List ℤ) : Type 0 where
-  pub few : Few answer
-  pub first : Room a work
-  pub second : 4092 ≤ length b
 
 -- As many counts as productions; the counts sum to the number of lengths, and the lengths to the number of tokens.
 pub record Summed (ps : List ℤ) (cs ns ts : List ℕ) : Type 0 where

@@ -1,97 +1,93 @@
-// A list built, a table united to it, the last one shrunk: each by its public call, in lent arrays.
+// A list built, a table united to it, the last one shrunk: each by its public call, in arrays that the caller holds.
 #![tactic(auto)]
 
-ghost use Rattle.std.specs.Prelude.{◌≡◌, ◌*◌, ◌≤◌, length, take};
+ghost use Rattle.std.specs.Prelude.{◌≡◌, ◌*◌, ◌≤◌, length, take, Ok};
 ghost use Rattle.paper.specs.declared.Mode.TheVariants.{Intake};
 ghost use Rattle.paper.specs.Answers.{then, Makes};
 ghost use Rattle.paper.specs.Build.{build};
 ghost use Rattle.paper.specs.Unite.{unite};
 ghost use Rattle.promises.specs.Demand.{shrink_made};
-ghost use Rattle.intake_lists.specs.Held.{held, Few, Holds, Room};
+ghost use Rattle.intake_lists.specs.Held.{held, answered, Few, Holds};
 
-use paper::{Making, Mode};
+use paper::{Heading, Mode, Refusal, StringList, Table};
 
-// The first n numbers of work become those of buf.
-fn keep(work: &[i32], n: usize, buf: &mut [i32])
-    requires { (n ≤ length work.now) × (n ≤ length buf.old) }
-    ensures { take n buf.new ≡ take n work.now }
-{
-    let mut i = 0;
-    while i < n {
-        buf[i] = work[i];
-        i += 1;
+// The room that build and unite ask of their output.
+pub type Room = [i32; 16384];
+
+// A table in an array of its own: its heading, and its rows at the front.
+#[derive(Drop)]
+pub struct Kept {
+    pub heading: Heading,
+    pub buf: [i32; 4096],
+    ghost few: { Few (Ok heading) },
+}
+
+impl Kept {
+    // No table yet.
+    pub fn empty() -> Kept {
+        let heading = Heading {
+            prod0: -1,
+            k: 0,
+            rows: 0,
+            states: 0,
+        };
+        Kept {
+            heading,
+            buf: [0; 4096],
+        }
+    }
+
+    // The table as the next call is lent it.
+    pub fn lent(&self) -> Table
+        ensures prod0 { result.prod0 ≡ self.now.heading.prod0 }
+        ensures k { result.k ≡ self.now.heading.k }
+        ensures rows { result.rows.now ≡ take (self.now.heading.rows * 4) self.now.buf }
+    {
+        Table {
+            prod0: self.heading.prod0,
+            k: self.heading.k,
+            rows: &self.buf[..self.heading.rows * 4],
+        }
+    }
+
+    // A table whose rows stand at the front of the work takes the place of what is there.
+    fn keep(&mut self, heading: Heading, work: &Room)
+        requires { Few (Ok heading) }
+        ensures heading { self.new.heading ≡ heading }
+        ensures rows { take (heading.rows * 4) self.new.buf ≡ take (heading.rows * 4) work.now }
+    {
+        let n = heading.rows * 4;
+        self.buf[..n].copy_from_slice(&work[..n]);
+        self.heading = heading;
     }
 }
 
-// A list built; its rows are kept in buf.
-pub fn build_list(
-    production: i32,
-    tokens: &[u16],
-    lengths: &[usize],
-    buf: &mut [i32],
-    work: &mut [i32],
-) -> Making
-    requires { Room buf.old work.old }
-    ensures { Holds (build production tokens.now lengths.now 16384) result
-        buf.new }
+// A list built, and kept.
+pub fn build_list(list: StringList, kept: &mut Kept, work: &mut Room) -> Result<(), Refusal>
+    ensures { Holds (build list.entry.production list.entry.tokens.now list.entry.lengths.now 16384)
+        (answered result kept.new.heading) kept.new.buf }
 {
-    let made = build::build(production, tokens, lengths, work);
-    let Making::Made {
-        prod0: _,
-        k: _,
-        rows,
-        states: _,
-    } = made
-    else {
-        return made;
-    };
-    keep(work, rows * 4, buf);
-    made
+    let built = build::build(list, work)?;
+    kept.keep(built, work);
+    Ok(())
 }
 
-// Two tables of n and m rows united; the result's rows are kept where the first's stood.
-pub fn unite_two(
-    p: i32,
-    k: usize,
-    n: usize,
-    q: i32,
-    l: usize,
-    m: usize,
-    a: &mut [i32],
-    b: &[i32],
-    work: &mut [i32],
-) -> Making
-    requires { Room a.old work.old × (n ≤ 1023) × (4092 ≤ length b.now) × (m ≤ 1023) }
-    ensures { Holds (unite Intake p k (take (n * 4) a.old) q l (take (m * 4) b.now) 16384)
-        result a.new }
+// A table united to the one so far, in whose place the result is kept.
+pub fn unite_two(so_far: &mut Kept, second: Table, work: &mut Room) -> Result<(), Refusal>
+    ensures { Holds (unite Intake so_far.old.heading.prod0 so_far.old.heading.k
+        (take (so_far.old.heading.rows * 4) so_far.old.buf)
+        second.entry.prod0 second.entry.k second.entry.rows.now 16384)
+        (answered result so_far.new.heading) so_far.new.buf }
 {
-    let united = unite::unite(Mode::Intake, p, k, &a[..n * 4], q, l, &b[..m * 4], work);
-    let Making::Made {
-        prod0: _,
-        k: _,
-        rows,
-        states: _,
-    } = united
-    else {
-        return united;
-    };
-    keep(work, rows * 4, a);
-    united
+    let united = unite::unite(Mode::Intake, so_far.lent(), second, work);
+    so_far.keep(united?, work);
+    Ok(())
 }
 
 // The united table shrunk into the output.
-pub fn finish(last: Making, a: &[i32], out: &mut [i32]) -> Making
-    requires { Few last × (4092 ≤ length a.now) × (16384 ≤ length out.old) }
-    ensures { Makes (then (held last a.now) shrink_made) result out.old out.new }
+pub fn finish(last: &Kept, out: &mut [i32]) -> Result<Heading, Refusal>
+    requires { 16384 ≤ length out.old }
+    ensures { Makes (then (held (Ok last.now.heading) last.now.buf) shrink_made) result out.old out.new }
 {
-    let Making::Made {
-        prod0,
-        k,
-        rows,
-        states: _,
-    } = last
-    else {
-        return last;
-    };
-    shrink::shrink(Mode::Intake, prod0, k, &a[..rows * 4], out)
+    shrink::shrink(Mode::Intake, last.lent(), out)
 }

@@ -7,13 +7,16 @@ ghost use Rattle.ruled.specs.Into.{hangs, differs};
 
 use crate::into::Marks;
 
+// State 0, which no row has to lead to.
+const ROOT: usize = 0;
+
 // Row i's from is not 0 and is no row's to.
 fn hangs(marks: Marks, i: usize) -> bool
     requires { i < length marks.few.rows.numbers.now / 4 }
     ensures { result ≡ hangs (rows_in marks.entry.few.rows.numbers.now) (row_at marks.entry.few.rows.numbers.now i) }
 {
     let from = marks.few.rows.from(i);
-    if from == 0 {
+    if from == ROOT {
         return false;
     }
     marks.into[from] == 0
