@@ -13,7 +13,8 @@ ghost use Rattle.intake_lists.specs.Call.{table_of};
 ghost use Rattle.handed.specs.Handed.{mode_of, table_checked, of_chosen, of_count, of_stretch, returned};
 ghost use Rattle.handed.specs.Handed.{Hands, HandedTable, HandedRead, HandedWritten};
 
-use row_checks::Verdict;
+use intake_lists::StringLists;
+use paper::{StringList, Table};
 
 // Build: rows at the front of `out`; prod0 plus one, k, the row count, the state count.
 #[unsafe(no_mangle)]
@@ -27,7 +28,12 @@ pub extern "C" fn lookahead_build(
     ensures { HandedTable (build production tokens.now lengths.now
         (length out.old)) out.old out.new result answer.new }
 {
-    handed::made(build::build(production, tokens, lengths, out), answer)
+    let list = StringList {
+        production,
+        tokens,
+        lengths,
+    };
+    handed::hand(build::build(list, out), answer)
 }
 
 // Unite: rows at the front of `out`; the values as build's.
@@ -47,10 +53,17 @@ pub extern "C" fn lookahead_unite(
         (length out.old)) out.old out.new result answer.new }
 {
     let mode = handed::mode_of(mode);
-    handed::made(
-        unite::unite(mode, prod0a, ka, a, prod0b, kb, b, out),
-        answer,
-    )
+    let first = Table {
+        prod0: prod0a,
+        k: ka,
+        rows: a,
+    };
+    let second = Table {
+        prod0: prod0b,
+        k: kb,
+        rows: b,
+    };
+    handed::hand(unite::unite(mode, first, second, out), answer)
 }
 
 // Shrink: rows at the front of `out`; the values as build's.
@@ -67,7 +80,7 @@ pub extern "C" fn lookahead_shrink(
         out.old out.new result answer.new }
 {
     let mode = handed::mode_of(mode);
-    handed::made(shrink::shrink(mode, prod0, k, rows, out), answer)
+    handed::hand(shrink::shrink(mode, Table { prod0, k, rows }, out), answer)
 }
 
 // Several lists built, united and shrunk in intake mode: rows at the front of `out`; the values as build's.
@@ -83,10 +96,13 @@ pub extern "C" fn lookahead_intake(
     ensures { HandedTable (table_of productions.now counts.now lengths.now
         tokens.now (length out.old)) out.old out.new result answer.new }
 {
-    handed::made(
-        intake::shrunk_table(productions, counts, lengths, tokens, out),
-        answer,
-    )
+    let lists = StringLists {
+        productions,
+        counts,
+        lengths,
+        tokens,
+    };
+    handed::hand(intake::shrunk_table(lists, out), answer)
 }
 
 // The checks of predict and explain on the table alone: 1, 2, 3.
@@ -94,13 +110,9 @@ pub extern "C" fn lookahead_intake(
 pub extern "C" fn lookahead_check(prod0: i32, k: usize, rows: &[i32]) -> usize
     ensures { result ≡ returned (table_checked prod0 k rows.now) }
 {
-    if row_checks::row_slice(rows) {
-        return 1;
-    }
-    let verdict = row_checks::plain(prod0, k, rows);
-    match verdict {
-        Verdict::Refused(f) => f.number(),
-        Verdict::Pass => 0,
+    match row_checks::whole(Table { prod0, k, rows }) {
+        Ok(_) => 0,
+        Err(refusal) => refusal.number(),
     }
 }
 
@@ -119,10 +131,8 @@ pub extern "C" fn lookahead_predict(
         of_chosen result answer.new }
 {
     let mode = handed::mode_of(mode);
-    handed::predicted(
-        predict::predict(mode, prod0, k, rows, stream, tokens),
-        answer,
-    )
+    let lent = Table { prod0, k, rows };
+    handed::hand(predict::predict(mode, lent, stream, tokens), answer)
 }
 
 // Batch: at the front of `out` the answer for each of `count` windows of k tokens, one after the other: the production, or
@@ -143,10 +153,8 @@ pub extern "C" fn lookahead_batch(
         (length out.old)) out.old out.new result answer.new }
 {
     let mode = handed::mode_of(mode);
-    handed::wrote(
-        batch::batch(mode, prod0, k, rows, stream, count, tokens, out),
-        answer,
-    )
+    let lent = Table { prod0, k, rows };
+    handed::hand(batch::batch(mode, lent, stream, count, tokens, out), answer)
 }
 
 // Explain, the first call: the count of matched tokens.
@@ -160,7 +168,7 @@ pub extern "C" fn lookahead_explain(
 ) -> usize
     ensures { Hands (matched_count prod0 k rows.now tokens.now) of_count result answer.new }
 {
-    handed::explained(explain::matched(prod0, k, rows, tokens), answer)
+    handed::hand(explain::matched(Table { prod0, k, rows }, tokens), answer)
 }
 
 // Explain, the second call: where the rows that leave the stopped state begin in `rows`, and how many numbers they are.
@@ -174,8 +182,8 @@ pub extern "C" fn lookahead_stretch(
 )
     ensures { answer.new ≡ of_stretch (stretch prod0 k rows.now tokens.now) }
 {
-    let part = explain::place(prod0, k, rows, tokens);
-    handed::put(answer, part.start as u64, part.count as u64, 0, 0);
+    let part = explain::place(Table { prod0, k, rows }, tokens);
+    *answer = [part.start as u64, part.count as u64, 0, 0];
 }
 
 // Text in: rows at the front of `out`; prod0 plus one, k, the row count.
@@ -184,7 +192,7 @@ pub extern "C" fn lookahead_text_in(text: &[u8], out: &mut [i32], answer: &mut [
     ensures { HandedRead (text_in text.now (length out.old))
         out.old out.new result answer.new }
 {
-    handed::heard(text_in::text_in(text, out), answer)
+    handed::hand(text_in::text_in(text, out), answer)
 }
 
 // Text out: the text at the front of `out`; its length.
@@ -199,5 +207,5 @@ pub extern "C" fn lookahead_text_out(
     ensures { HandedWritten (text_out prod0 k rows.now (length out.old))
         out.old out.new result answer.new }
 {
-    handed::wrote(text_out::text_out(prod0, k, rows, out), answer)
+    handed::hand(text_out::text_out(Table { prod0, k, rows }, out), answer)
 }
