@@ -6,7 +6,8 @@ ghost use Rattle.paper.specs.Answers.{Makes};
 ghost use Rattle.paper.specs.Build.{within};
 ghost use Rattle.paper.specs.Rows.{rows_in};
 ghost use Rattle.rows.specs.Places.{given};
-ghost use Rattle.grow_laws.specs.Held.{view, row_held, Laid, table_of, Seeks, Adding, Added, Giving, Given};
+ghost use Rattle.trees.proofs.Tree.{Tree};
+ghost use Rattle.grow_laws.specs.Held.{view, row_held, Laid, table_of, Seeks, Missed, Added, Given};
 
 use paper::{Heading, Production, State, Terminal};
 use rows::{Rows, numbers};
@@ -36,7 +37,8 @@ impl Growing {
 
     // The rows of a table that passed the checks, from row 128 on.
     pub fn of(rows: Rows) -> Growing
-        requires { (length rows.numbers.now ≤ 4092) × (length rows.numbers.now / 4 * 4 ≡ length rows.numbers.now) }
+        requires { (length rows.numbers.now ≤ 4092)
+            × (length rows.numbers.now / 4 * 4 ≡ length rows.numbers.now) }
         ensures { rows_of result ≡ rows_in rows.entry.numbers.now }
     {
         let mut growing = Growing::empty();
@@ -63,17 +65,18 @@ impl Growing {
     }
 
     // The row of a state and a terminal, or where it would go.
-    pub fn find(&self, s: State, t: Terminal) -> Result<usize, usize>
-        requires { s.0 ≤ 1023 }
-        ensures { Seeks (seen self.now) self.now.n s.0 t.0 result }
+    pub fn find(&self, state: State, terminal: Terminal) -> Result<usize, usize>
+        requires { state.0 ≤ 1023 }
+        ensures { Seeks (seen self.now) self.now.n state.0 terminal.0 result }
     {
-        search::find(self.rows(), s, t)
+        search::find(self.rows(), state, terminal)
     }
 
     // The state that row i leads to.
     pub fn to(&self, i: usize) -> State
         requires { i < self.now.n }
-        ensures { (result.0 ≡ (row_held (seen self.now) self.now.n i).to) × (result.0 ≤ 1023) }
+        ensures { (result.0 ≡ (row_held (seen self.now) self.now.n i).to)
+            × (result.0 ≤ 1023) }
     {
         State(self.rows().to(i) as u16)
     }
@@ -86,23 +89,28 @@ impl Growing {
         self.rows().production(i)
     }
 
-    // The row from s by t to the next state is put in at its place i.
-    pub fn add(&mut self, i: usize, s: State, t: Terminal, production: Option<Production>)
-        requires { Adding (seen self.old) self.old.n i s.0 t.0 }
-        ensures { Added (seen self.old) (seen self.new) self.old.n i s.0 t.0 (given production) × (self.new.n ≡ self.old.n + 1) }
+    // The row from a state by a terminal to the next state is put in at its place i.
+    pub fn add(&mut self, i: usize, from: State, terminal: Terminal, production: Option<Production>)
+        requires { Missed (seen self.old) self.old.n i from.0 terminal.0 × (self.old.n < 1023) }
+        ensures { Added (seen self.old) (seen self.new) self.old.n i from.0 terminal.0 (given production)
+            × (self.new.n ≡ self.old.n + 1) }
     {
-        let from = numbers::number_of(s.0 as usize);
-        let terminal = numbers::number_of(t.0 as usize);
         let to = numbers::number_of(self.n + 1);
-        let row = [from, terminal, to, numbers::signed(production)];
+        let row = [
+            numbers::number_of(from.0 as usize),
+            numbers::number_of(terminal.0 as usize),
+            to,
+            numbers::signed(production),
+        ];
         self.lo = grow_ends::insert(&mut self.buf, self.lo, self.n, i, row);
         self.n += 1;
     }
 
-    // The state that row i leads to gets a production.
+    // The state that row i of a tree leads to gets a production.
+    #[tactic(auto, using(grow_laws::proofs::Painted::gives), unfolding(paper::specs::Checks::production_fits))]
     pub fn give(&mut self, i: usize, production: Option<Production>)
-        requires { Giving (seen self.old) self.old.n i }
-        ensures { Given (seen self.old) (seen self.new) self.old.n i (given production) × (self.new.n ≡ self.old.n) × (self.new.lo ≡ self.old.lo) }
+        requires { Tree (rows_of self.old) × (i < self.old.n) }
+        ensures { Given (seen self.old) (seen self.new) self.old.n i (given production) × (self.new.n ≡ self.old.n) }
     {
         self.buf[(self.lo + i) * 4 + 3] = numbers::signed(production);
     }
@@ -110,7 +118,8 @@ impl Growing {
     // The rows at the front of the output, and the answer.
     pub fn finish(&self, prod0: Option<Production>, k: usize, out: &mut [i32]) -> Heading
         requires { 16384 ≤ length out.old }
-        ensures { Makes (within (table_of (given prod0) k (seen self.now) self.now.n)) (Ok result) out.old out.new }
+        ensures { Makes (within (table_of (given prod0) k (seen self.now) self.now.n))
+            (Ok result) out.old out.new }
     {
         out[..self.n * 4].copy_from_slice(self.rows().numbers);
         Heading {

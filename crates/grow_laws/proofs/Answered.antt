@@ -10,7 +10,6 @@ use borrow.Author.Tests.{lt-ltb, le-ltb}
 use lib.ListN.{length, take, drop}
 use lib.IntN.{ℤ}
 use Rattle.std.specs.Prelude.{Ok, Err}
-use Rattle.paper.specs.declared.Heading.{Heading}
 use Rattle.paper.specs.declared.Refusal.TheVariants as refusal
 use Rattle.paper.specs.Rows.{Table, signed}
 use Rattle.paper.specs.Answers.{accept, refuse, Makes}

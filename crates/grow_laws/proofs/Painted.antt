@@ -21,10 +21,16 @@ use Rattle.trees.proofs.Find.{In}
 use Rattle.trees.proofs.Rising.{before_last, after_last, not_before_itself, rising_true, true_rising}
 use Rattle.trees.proofs.Paint.{paint, rising_paint}
 use Rattle.trees.proofs.Tree.{Tree, same_to, up}
-use Rattle.grow_laws.specs.Held.{view, held, row_held, Giving, Given}
+use Rattle.grow_laws.specs.Held.{view, held, row_held, Laid, Given}
 use Rattle.grow_laws.proofs.Written.{no_row, held_length, held_at}
 use Rattle.grow_laws.proofs.Viewed.{view_set}
 use Rattle.grow_laws.proofs.Placed.{room, written, laid_by, fitting}
+
+-- a production for the state that row i of a tree leads to.
+pub record Giving (buf : List ℤ) (n i : ℕ) : Type 0 where
+  pub laid : Laid buf n
+  pub tree : Tree (held buf n)
+  pub there : i < n
 
 -- rows none of which leads into s stay as they are
 pub paint_none : (s : ℕ) (q : Option ℕ) (rs : List Row) → ((x : Row) → In x rs → x.to ≡ s → ⊥) → map (paint s q) rs
@@ -134,9 +140,11 @@ module _ (buf : List ℤ) (n i : ℕ) (p : Option ℕ) (f : production_fits p �
       }
 
 -- the production written in the array
-pub gives : (buf : List ℤ) (lo n i : ℕ) (p : Option ℕ) → production_fits p ≡ true → Giving (view buf lo) n i
-    → (z : ℤ) → z ≡ signed p → Given (view buf lo) (view (set buf ((lo + i) * 4 + 3) z) lo) n i p
-gives buf lo n i p f g z d =
+pub gives : (buf : List ℤ) (lo n i : ℕ) (p : Option ℕ) (z : ℤ) → Laid (view buf lo) n → Tree (held (view buf lo) n)
+    → i < n → production_fits p ≡ true → z ≡ signed p
+    → Given (view buf lo) (view (set buf ((lo + i) * 4 + 3) z) lo) n i p
+gives buf lo n i p z l t h f d =
     let e : view (set buf ((lo + i) * 4 + 3) z) lo ≡ set (view buf lo) (i * 4 + 3) (signed p) =
     view_set buf lo i 3 z ∙ ap (set (view buf lo) (i * 4 + 3)) d in
-    given (view buf lo) n i p f g (view (set buf ((lo + i) * 4 + 3) z) lo) e (ap length e ∙ simp length-set)
+    given (view buf lo) n i p f (record { laid = l; tree = t; there = h }) (view (set buf ((lo + i) * 4 + 3) z) lo) e
+    (ap length e ∙ simp length-set)

@@ -26,8 +26,14 @@ use Rattle.search.proofs.Finding.{found}
 use Rattle.trees.proofs.Find.{In}
 use Rattle.trees.proofs.Rising.{true_rising, rising_true, rising_insert, in_insert}
 use Rattle.grow_laws.specs.Moves.{put_in, Inserted}
-use Rattle.grow_laws.specs.Held.{held, Laid, Adding, next, Added}
+use Rattle.grow_laws.specs.Held.{held, Laid, Missed, next, Added}
 use Rattle.grow_laws.proofs.Written.{numbers_append, numbers_take, numbers_drop, numbers_back, no_row, row_there, held_numbers, held_length, held_at}
+
+-- a row from s by t to the next state, whose place among the n rows is i.
+pub record Adding (buf : List ℤ) (n i s t : ℕ) : Type 0 where
+  pub missed : Missed buf n i s t
+  pub more : n < 1023
+  pub terminal : t ≤ 65535
 
 -- a row goes before the first row that it comes before
 pub insert_at : (r : Row) (rs : List Row) (p : ℕ) → p ≤ length rs
@@ -152,10 +158,10 @@ module _ (buf : List ℤ) (n i s t : ℕ) (p : Option ℕ) (f : production_fits 
         old x k = every_in row_fits rs laid.passed.fits x k
 
 -- the numbers of the row as they were passed on
-pub adds : (buf : List ℤ) (n i s t : ℕ) (p : Option ℕ) → production_fits p ≡ true → Adding buf n i s t
-    → (new : List ℤ) (w x y z : ℤ) → Inserted buf new n i (w ∷ x ∷ y ∷ z ∷ [])
+pub adds : (buf new : List ℤ) (n i s t : ℕ) (p : Option ℕ) (w x y z : ℤ) → Missed buf n i s t → n < 1023 → t ≤ 65535
+    → production_fits p ≡ true → Inserted buf new n i (w ∷ x ∷ y ∷ z ∷ [])
     → w ≡ pos s → x ≡ pos t → y ≡ pos (n + 1) → z ≡ signed p → Added buf new n i s t p
-adds buf n i s t p f a new w x y z e ew ex ey ez =
-    added buf n i s t p f a new
+adds buf new n i s t p w x y z m h k f e ew ex ey ez =
+    added buf n i s t p f (record { missed = m; more = h; terminal = k }) new
     (subst (λ (row : List ℤ). Inserted buf new n i row)
     (λ j. ew j ∷ ex j ∷ (ey ∙ ap pos (add-one n)) j ∷ ez j ∷ []) e)

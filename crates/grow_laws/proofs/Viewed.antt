@@ -1,22 +1,20 @@
 -- The array seen from a row on: what is read, written, lent and given back there.
 -- Assumes nothing.
 use mathlib.Core.Path.{◌≡◌, refl, ap, sym, ◌∙◌}
-use mathlib.Core.Option.{Option}
 use Rattle.std.specs.Prelude.{Result, Ok, Err}
 use mathlib.Core.List.{List, [], ◌++◌, append-nil}
-use Prim.Native.Nat.{ℕ, ◌+◌, ◌-◌, ◌*◌, ◌/◌, ◌<◌, ◌≤◌}
+use Prim.Native.Nat.{ℕ, ◌+◌, ◌-◌, ◌*◌, ◌<◌, ◌≤◌}
 use native.Mathlib.Omega.{arith}
-use lib.ListN.{length, get_or, take, drop, set, length-drop, drop_of_length-le}
-use lib.Seq.{length-take-le, take_all, drop_at, drop-drop, drop-set-add, get_or-drop}
-use lib.IntN.{ℤ, pos}
-use Rattle.paper.specs.Rows.{Row, natural, accepting}
+use lib.ListN.{length, take, drop, set, length-drop, drop_of_length-le}
+use lib.Seq.{length-take-le, take_all, drop_at, drop-drop, drop-set-add}
+use lib.IntN.{ℤ}
 use Rattle.rows.specs.Places.{row_at}
 use Rattle.search.specs.Search.{Finds}
 use Rattle.rows.proofs.Passing.{fit_at}
 use Rattle.grow_laws.specs.Moves.{opened, inserted, put_in, Inserted, Slid}
 use Rattle.grow_laws.specs.Held.{view, row_held, Laid, Seeks}
 use Rattle.grow_laws.proofs.Shifted.{slid_rows}
-use Rattle.grow_laws.proofs.Written.{held_numbers, held_row}
+use Rattle.grow_laws.proofs.Written.{held_numbers}
 use Rattle.grow_laws.proofs.Placed.{room}
 use Rattle.grow_laws.proofs.PutIn.{from_above, from_below}
 
@@ -45,11 +43,6 @@ pub rows_part : (buf : List ℤ) (a m : ℕ) → take (a + m - a) (drop a buf) �
 rows_part buf a m = let e : a + m - a ≡ m = omega arith in rw e
 
 -- ---- what is read and written there
-view_number : (buf : List ℤ) (lo i j : ℕ) → get_or buf ((lo + i) * 4 + j) (pos 0) ≡ get_or (view buf lo) (i * 4 + j) (pos 0)
-view_number buf lo i j =
-    let e : (lo + i) * 4 + j ≡ lo * 4 + (i * 4 + j) = omega arith in
-    rw e (sym (get_or-drop (lo * 4) buf (i * 4 + j) (pos 0)))
-
 pub view_set : (buf : List ℤ) (lo i j : ℕ) (z : ℤ)
     → view (set buf ((lo + i) * 4 + j) z) lo ≡ set (view buf lo) (i * 4 + j) z
 view_set buf lo i j z =

@@ -7,7 +7,6 @@ use Rattle.rows.specs.Places.{row_at}
 use Rattle.rows.specs.Passed.{Passed}
 use Rattle.search.specs.Search.{Lower}
 use Rattle.trees.proofs.Paint.{paint}
-use Rattle.trees.proofs.Tree.{Tree}
 
 -- The array from row lo on: where the rows of a table that grows stand.
 abbrev pub view : List ℤ → ℕ → List ℤ
@@ -43,12 +42,6 @@ abbrev pub Seeks : List ℤ → ℕ → ℕ → ℕ → Result ℕ ℕ → Type 
 Seeks buf n s t (Ok i) = (i < n) × (find (held buf n) s t ≡ some (row_held buf n i))
 Seeks buf n s t (Err i) = Missed buf n i s t
 
--- A row from s by t to the next state, whose place among the n rows is i.
-pub record Adding (buf : List ℤ) (n i s t : ℕ) : Type 0 where
-  pub missed : Missed buf n i s t
-  pub more : n < 1023
-  pub terminal : t ≤ 65535
-
 -- The row from s by t to the state after n.
 abbrev pub next : ℕ → ℕ → ℕ → Option ℕ → Row
 next n s t p = record { from = s; terminal = t; to = suc n; production = p }
@@ -59,12 +52,6 @@ pub record Added (old new : List ℤ) (n i s t : ℕ) (p : Option ℕ) : Type 0 
   pub there : i < suc n
   pub at : row_held new (suc n) i ≡ next n s t p
   pub rows : held new (suc n) ≡ insert (next n s t p) (held old n)
-
--- A production for the state that row i of a tree leads to.
-pub record Giving (buf : List ℤ) (n i : ℕ) : Type 0 where
-  pub laid : Laid buf n
-  pub tree : Tree (held buf n)
-  pub there : i < n
 
 -- The rows with that production in each row into the state.
 pub record Given (old new : List ℤ) (n i : ℕ) (p : Option ℕ) : Type 0 where

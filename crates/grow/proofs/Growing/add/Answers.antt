@@ -1,12 +1,9 @@
-use mathlib.Core.Path.{◌≡◌, refl, ◌∙◌}
-use mathlib.Core.Bool.{true}
+use mathlib.Core.Path.{refl}
 use native.Mathlib.Numerals.{add-one}
 use borrow.Author.Rules.{rules}
-use mir.Syntax.{w32}
-use mir.Val.{to_z, of_z}
 use Rattle.paper.specs.Checks.{production_fits}
 use Rattle.rows.specs.Places.{given}
-use Rattle.grow_laws.specs.Held.{view}
+use Rattle.grow.specs.Seen.{seen}
 use Rattle.grow_laws.proofs.Placed.{adds}
 use Rattle.grow.proofs.Growing.add.Goals as goal
 
@@ -14,13 +11,18 @@ pub invariant_of-self : goal.invariant_of-self
 unfolding production_fits
 invariant_of-self c =
     let a = c.args in
-    let f : production_fits (given a.production) ≡ true = search rules in
-    let h = adds (view a.self.now.buf a.self.now.lo) a.self.now.n a.i a.s.0 a.t.0 (given a.production) f c.requires _ _ _ _ _ c.insert-self.ensures (search rules) (search rules) (search rules) (search rules) in
+    let g = a.self.now in
+    let h = adds (seen g) _ g.n a.i a.from.0 a.terminal.0 (given a.production) _ _ _ _ c.requires.0 c.requires.1
+    (search rules) (search rules) c.insert-self.ensures (search rules) (search rules) (search rules) (search rules) in
     record { laid = rw add-one h.laid }
 
 pub returns : goal.returns
 unfolding production_fits
 returns c =
     let a = c.args in
-    let f : production_fits (given a.production) ≡ true = search rules in
-    (adds (view a.self.now.buf a.self.now.lo) a.self.now.n a.i a.s.0 a.t.0 (given a.production) f c.requires _ _ _ _ _ c.insert-self.ensures (search rules) (search rules) (search rules) (search rules), refl)
+    let g = a.self.now in (
+      adds (seen g) _ g.n a.i a.from.0 a.terminal.0 (given a.production) _ _ _ _ c.requires.0 c.requires.1
+          (search rules) (search rules) c.insert-self.ensures (search rules) (search rules) (search rules)
+          (search rules),
+      refl,
+    )

@@ -1,4 +1,3 @@
-use native.Mathlib.Omega.{arith}
 use borrow.Author.Rules.{rules}
 use Rattle.grow_laws.proofs.Begun.{begun_rows, begun_laid}
 use Rattle.grow.proofs.Growing.of.Goals as goal

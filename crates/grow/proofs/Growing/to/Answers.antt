@@ -1,4 +1,3 @@
-use native.Mathlib.Omega.{arith}
 use Rattle.grow.specs.Seen.{seen}
 use Rattle.grow_laws.proofs.Viewed.{to_read}
 use Rattle.grow.proofs.Growing.to.Goals as goal
