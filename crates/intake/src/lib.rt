@@ -10,7 +10,7 @@ ghost use Rattle.intake_lists.specs.Call.{unite_all, table_of};
 ghost use Rattle.intake_lists.specs.Split.{lists_of};
 
 use intake_lists::{Lists, StringLists};
-use intake_steps::Kept;
+use intake_steps::kept::Kept;
 use paper::{Heading, Refusal};
 
 // The lists united in arrays of their own, and the shrunk table's rows at the front of the output.

@@ -7,7 +7,7 @@ ghost use Rattle.intake_lists.specs.Call.{join_lent};
 ghost use Rattle.intake_lists.specs.Held.{held, answered, Holds};
 ghost use Rattle.intake_lists.specs.Split.{list_of};
 
-use intake_steps::{Kept, Room};
+use intake_steps::kept::{Kept, Room};
 use paper::{Refusal, StringList};
 
 // One more list, built and united to what there is.
@@ -17,8 +17,8 @@ pub fn join_list(
     next: &mut Kept,
     work: &mut Room,
 ) -> Result<(), Refusal>
-    ensures { Holds (then (held (Ok so_far.old.heading) so_far.old.buf) (λ m. join_lent m (list_of list.entry)))
-        (answered result so_far.new.heading) so_far.new.buf }
+    ensures { Holds (then (held (Ok so_far.old.small.heading) so_far.old.buf) (λ m. join_lent m (list_of list.entry)))
+        (answered result so_far.new.small.heading) so_far.new.buf }
 {
     intake_steps::build_list(list, next, work)?;
     intake_steps::unite_two(so_far, next.lent(), work)

@@ -8,7 +8,7 @@ ghost use Rattle.intake_lists.specs.Held.{held, answered, Holds};
 ghost use Rattle.intake_lists.specs.Split.{lists_of};
 
 use intake_lists::Lists;
-use intake_steps::{Kept, Room};
+use intake_steps::kept::{Kept, Room};
 use paper::Refusal;
 
 // The lists, one after the other, joined to what there is.
@@ -18,8 +18,8 @@ fn join_all(
     next: &mut Kept,
     work: &mut Room,
 ) -> Result<(), Refusal>
-    ensures { Holds (then (held (Ok so_far.old.heading) so_far.old.buf) (λ m. join_all m (lists_of lists.entry.lent)))
-        (answered result so_far.new.heading) so_far.new.buf }
+    ensures { Holds (then (held (Ok so_far.old.small.heading) so_far.old.buf) (λ m. join_all m (lists_of lists.entry.lent)))
+        (answered result so_far.new.small.heading) so_far.new.buf }
 {
     let mut rest = lists;
     while let Some((list, others)) = rest.split_first() {
@@ -37,7 +37,7 @@ pub fn unite_all(
     work: &mut Room,
 ) -> Result<(), Refusal>
     ensures { Holds (unite_all (lists_of lists.entry.lent))
-        (answered result so_far.new.heading) so_far.new.buf }
+        (answered result so_far.new.small.heading) so_far.new.buf }
 {
     let Some((first, others)) = lists.split_first() else {
         return Err(Refusal::Length);
