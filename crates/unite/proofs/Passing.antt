@@ -1,49 +1,45 @@
 -- What a table that passed 1 to 7 is: a tree with at most 1,023 rows, within its bounds.
 -- Assumes nothing.
 use mathlib.Core.Path.{◌≡◌, refl}
-use mathlib.Core.Bool.{false, not}
 use mathlib.Core.List.{List}
-use Prim.Native.Nat.{ℕ, zero, suc, ◌%◌, ◌≤◌}
+use Prim.Native.Nat.{ℕ, zero, suc, ◌≤◌}
 use native.Mathlib.Omega.{arith}
-use borrow.Author.Tests.{eqb-true, ltb-false, not-false}
-use lib.Dec.{eqb, ltb}
 use lib.ListN.{length}
 use lib.IntN.{ℤ}
-use Rattle.laws.proofs.Every.{neither, every_in}
-use Rattle.paper.specs.Rows.{Table, accepting, rows_in, table}
-use Rattle.paper.specs.Checks.{row_slice, row_fits, tree}
-use Rattle.rows.specs.Places.{code}
-use Rattle.row_checks.specs.Verdicts.{Judges}
-use Rattle.row_checks.specs.declared.Verdict.TheVariants.{Pass}
+use Rattle.laws.proofs.Every.{every_in}
+use Rattle.paper.specs.Rows.{accepting, rows_in, table}
+use Rattle.paper.specs.Checks.{row_fits, order, shape, loose, split, no_tree}
+use Rattle.rows.specs.Places.{code, bare}
+use Rattle.rows.specs.Passed.{Passed}
 use Rattle.rows.proofs.Rest.{length_rows}
 use Rattle.rows.proofs.Fits.{fit}
-use Rattle.row_checks.proofs.Judged.{passed, bounded}
-use Rattle.ruled.proofs.Passes.{tree_passed}
+use Rattle.row_checks.proofs.Judged.{bounded}
+use Rattle.ruled.specs.Beyond.{TreeTable}
+use Rattle.ruled.proofs.Passes.{Tree, tree_passed, ruled_rows}
 use Rattle.trees.specs.Trees as trees
-use Rattle.trees.proofs.Tree.{Tree, into}
+use Rattle.trees.proofs.Tree.{into}
 use Rattle.trees.proofs.Checked.{passes_tree}
 use Rattle.unite_taking.specs.Taking.{Treed}
-use Rattle.unite.specs.Whole.{Sized, Passes}
 
--- the checks 2 to 7, one by one
-checks : (t : Table) → Judges (tree t) Pass → trees.Sound t
-checks t j =
-    let h = tree_passed t j in
-    let r = h.ruled in
-    record {
-      ranged = r.range;
-      treed = record { ordered = r.order; shaped = r.shape; held = r.loose; whole = r.split; once = h.tree };
-    }
+module _ (p : ℤ) (k : ℕ) (ns : List ℤ) (s : TreeTable p k ns) where
+  checks : Tree (table p k ns)
+  checks = tree_passed (table p k ns) s.checked
 
-module _ (p : ℤ) (k : ℕ) (ns : List ℤ) (s : Passes p k ns) where
-  sound : trees.Sound (table p k ns)
-  sound = checks (table p k ns) s.judged
-
-  a_tree : Tree (rows_in ns)
-  a_tree = passes_tree (table p k ns) sound.treed
+  pub rows_passed : Passed ns
+  rows_passed = ruled_rows p k ns checks.ruled
 
   pub prod0_in : code (accepting p) ≤ 65536
-  prod0_in = (bounded (table p k ns) sound.ranged).prod0
+  prod0_in = (bounded (table p k ns) checks.ruled.range).prod0
+
+  checked : trees.Treed (bare ns)
+  unfolding order shape loose split no_tree
+  checked = record {
+    ordered = checks.ruled.order;
+    shaped = checks.ruled.shape;
+    held = checks.ruled.loose;
+    whole = checks.ruled.split;
+    once = checks.tree;
+  }
 
   -- as many rows as states, and a state is at most 1,023
   few_rows : length (rows_in ns) ≤ 1023
@@ -52,22 +48,14 @@ module _ (p : ℤ) (k : ℕ) (ns : List ℤ) (s : Passes p k ns) where
       go : (n : ℕ) → length (rows_in ns) ≡ n → n ≤ 1023
       go zero e = omega arith
       go (suc n) e =
-          let (x, i, d) = into (rows_in ns) a_tree (length (rows_in ns)) (omega arith) (omega arith) in
-          let q = passed p k ns sound.ranged sound.treed.ordered in
-          omega (arith, d, e, (fit x (every_in row_fits (rows_in ns) q.fits x i)).to)
+          let (x, i, d) = into (rows_in ns) (passes_tree (bare ns) checked) (length (rows_in ns)) (omega arith)
+          (omega arith) in
+          omega (arith, d, e, (fit x (every_in row_fits (rows_in ns) rows_passed.fits x i)).to)
 
   pub treed : Treed ns
   treed = record {
-    passed = passed p k ns sound.ranged sound.treed.ordered;
-    tree = a_tree;
+    passed = rows_passed;
+    checked = checked;
     whole = omega (arith, few_rows, length_rows ns, s.sized.fours);
     fours = s.sized.fours;
   }
-
--- a row slice that passed 1
-pub sized : (ns : List ℤ) → row_slice ns ≡ false → Sized ns
-unfolding row_slice
-sized ns e =
-    let h = neither (not (eqb (length ns % 4) 0)) (ltb 16384 (length ns)) e in
-    let z : length ns % 4 ≡ 0 = eqb-true (length ns % 4) 0 (not-false (eqb (length ns % 4) 0) h.0) in
-    record { few = ltb-false 16384 (length ns) h.1; fours = omega arith }

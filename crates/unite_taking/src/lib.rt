@@ -4,7 +4,7 @@
 ghost use Rattle.std.specs.Prelude.{◌<◌, ◌≤◌};
 ghost use Rattle.paper.specs.Rows.{find, rows_in};
 ghost use Rattle.rows.specs.Places.{given};
-ghost use Rattle.grow_laws.specs.Held.{row_held, Missed, Giving};
+ghost use Rattle.grow_laws.specs.Held.{row_held, Missed};
 ghost use Rattle.grow.specs.Seen.{seen, rows_of};
 ghost use Rattle.trees.proofs.Tree.{Tree};
 ghost use Rattle.counts.specs.Arrays.{Clear};
@@ -51,7 +51,7 @@ fn matched(
     i: usize,
     production: Option<Production>,
 ) -> Result<State, Refusal>
-    requires { Giving (seen growing.old) growing.old.n i }
+    requires { Tree (rows_of growing.old) × (i < growing.old.n) }
     ensures { Matches mode growing.new (rows_of growing.old) (given production)
         (row_held (seen growing.old) growing.old.n i) result }
 {
