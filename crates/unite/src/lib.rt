@@ -10,24 +10,12 @@ ghost use Rattle.unite_taking.specs.Taking.{Overflows, Refuses, joining};
 
 use grow::Growing;
 use paper::{Heading, Mode, Production, Refusal, Table};
-use rows::{Rows, numbers};
+use rows::numbers;
 use ruled::Tree;
 use unite_taking::TreeRows;
 
-// The rows of a table that passed the checks 1 to 7.
-#[tactic(auto, using(crate::proofs::Passing::rows_passed, crate::proofs::Passing::treed))]
-fn tree_rows<'a>(lent: Tree<'a>) -> TreeRows<'a>
-    ensures { result.rows.numbers.now ≡ lent.entry.table.rows.now }
-{
-    TreeRows {
-        rows: Rows {
-            numbers: lent.table.rows,
-        },
-    }
-}
-
 // The production of state 0 of a table that passed the checks 1 to 7.
-#[tactic(auto, using(rows::proofs::Signed::kept, crate::proofs::Passing::prod0_in))]
+#[tactic(auto, using(rows::proofs::Signed::kept, unite_taking::proofs::Passing::prod0_in))]
 fn root_production(lent: Tree) -> Option<Production>
     ensures { given result ≡ accepting lent.entry.table.prod0 }
 {
@@ -78,7 +66,7 @@ fn united(mode: Mode, first: Tree, second: Tree, out: &mut [i32]) -> Result<Head
 {
     let prod0 = unite_meet::root(mode, root_production(first), root_production(second))?;
     let k = unite_meet::united_k(mode, first.table.k, second.table.k);
-    joined(mode, prod0, k, tree_rows(first), tree_rows(second), out)
+    joined(mode, prod0, k, first.into(), second.into(), out)
 }
 
 // Unite: 1 for everything, 2 to 7 for the first table, 2 to 7 for the second, then 8, 14.

@@ -1,7 +1,7 @@
 // The rows of the second table taken into rows that grow, in order.
 #![tactic(auto)]
 
-ghost use Rattle.std.specs.Prelude.{◌<◌, ◌≤◌};
+ghost use Rattle.std.specs.Prelude.{◌≡◌, ◌<◌, ◌≤◌};
 ghost use Rattle.paper.specs.Rows.{find, rows_in};
 ghost use Rattle.rows.specs.Places.{given};
 ghost use Rattle.grow_laws.specs.Held.{row_held, Missed};
@@ -22,6 +22,20 @@ const MOST_ROWS: usize = 1023;
 pub struct TreeRows<'a> {
     pub rows: Rows<'a>,
     ghost treed: { Treed rows.numbers.now },
+}
+
+impl<'a> From<ruled::Tree<'a>> for TreeRows<'a> {
+    ghost from_gives = { λ lent result. result.rows.numbers.now ≡ lent.table.rows.now };
+
+    // The rows of a table that passed the checks 1 to 7.
+    #[tactic(auto, using(crate::proofs::Passing::rows_passed, crate::proofs::Passing::treed))]
+    fn from(lent: ruled::Tree<'a>) -> TreeRows<'a> {
+        TreeRows {
+            rows: Rows {
+                numbers: lent.table.rows,
+            },
+        }
+    }
 }
 
 // A row that the first does not have: into a new state, unless there are 1,023 rows.
