@@ -1,12 +1,13 @@
 -- What comes of two productions of one state, as the code says it.
-use Rattle.std.specs.Prelude.{◌≡◌, [], ◌∷◌, ℕ, ◌≤◌}
+use Rattle.std.specs.Prelude.{◌≡◌, ℕ, Result, Ok, Err}
 use Rattle.std.proofs.Math.Option.{Option}
-use Rattle.paper.specs.Answers.{Ruling, accept, refuse}
-use Rattle.rows.specs.Places.{uncoded}
-use Rattle.unite_meet.specs.declared.Meet.{Meet}
-use Rattle.unite_meet.specs.declared.Meet.TheVariants.{Code, Clash}
+use Rattle.std.specs.declared.option.Option as rust
+use Rattle.paper.specs.declared.Production.{Production}
+use Rattle.paper.specs.declared.Refusal.{Refusal}
+use Rattle.paper.specs.Answers.{Ruling, accept, refuse, number, detail}
+use Rattle.rows.specs.Places.{given}
 
--- A code within its bound, or 8 with the two productions.
-abbrev pub Meets : Ruling (Option ℕ) → Meet → Type 0
-Meets g (Code c) = (c ≤ 65536) × (g ≡ accept (uncoded c))
-Meets g (Clash p q) = g ≡ refuse 8 (p.0 ∷ q.0 ∷ [])
+-- A production or none, or a refusal with its detail.
+abbrev pub Meets : Ruling (Option ℕ) → Result (rust.Option Production) Refusal → Type 0
+Meets g (Ok p) = g ≡ accept (given p)
+Meets g (Err f) = g ≡ refuse (number f) (detail f)

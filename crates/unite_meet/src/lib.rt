@@ -1,70 +1,69 @@
-// The productions that one state has in the two tables, as codes.
+// The productions that one state has in the two tables.
 #![tactic(auto)]
 
-ghost use Rattle.std.specs.Prelude.{◌≡◌, ◌≤◌};
+ghost use Rattle.std.specs.Prelude.{◌≡◌};
 ghost use Rattle.paper.specs.Unite.{agree, taken, root, united_k};
-ghost use Rattle.rows.specs.Places.{uncoded};
+ghost use Rattle.rows.specs.Places.{given};
 ghost use Rattle.unite_meet.specs.Met.{Meets};
 
-use paper::{Mode, Production};
+use paper::{Mode, Production, Refusal};
 
-// The code that the state takes, or CLASH: the first's production, then the second's.
-#[derive(Clone, Copy)]
-pub enum Meet {
-    Code(usize),
-    Clash(Production, Production),
-}
-
-// Two codes that clash where both are productions, and different ones; else the second, unless it is none.
-fn agree(p: usize, q: usize) -> Meet
-    requires { (p ≤ 65536) × (q ≤ 65536) }
-    ensures { Meets (agree (uncoded p) (uncoded q)) result }
+// Two productions clash where both are there, and different ones; else the second, unless it is none.
+#[tactic(auto, unfolding(paper::specs::Unite::agree))]
+fn agree(p: Option<Production>, q: Option<Production>) -> Result<Option<Production>, Refusal>
+    ensures { Meets (agree (given p) (given q)) result }
 {
-    if p == 0 {
-        return Meet::Code(q);
+    match (p, q) {
+        (None, _) => Ok(q),
+        (_, None) => Ok(p),
+        (Some(a), Some(b)) => {
+            if a == b {
+                Ok(q)
+            } else {
+                Err(Refusal::Clash(a, b))
+            }
+        }
     }
-    if q == 0 {
-        return Meet::Code(p);
-    }
-    if p == q {
-        return Meet::Code(q);
-    }
-    Meet::Clash(Production((p - 1) as u16), Production((q - 1) as u16))
 }
 
 // A matched state other than 0.
-pub fn taken(mode: Mode, p: usize, q: usize) -> Meet
-    requires { (p ≤ 65536) × (q ≤ 65536) }
-    ensures { Meets (taken mode (uncoded p) (uncoded q)) result }
+#[tactic(auto, unfolding(paper::specs::Unite::taken))]
+pub fn taken(
+    mode: Mode,
+    p: Option<Production>,
+    q: Option<Production>,
+) -> Result<Option<Production>, Refusal>
+    ensures { Meets (taken mode (given p) (given q)) result }
 {
-    let m = agree(p, q);
+    let agreed = agree(p, q)?;
     match mode {
-        Mode::Intake => m,
-        Mode::Archive => match m {
-            Meet::Code(_) => Meet::Code(q),
-            Meet::Clash(a, b) => Meet::Clash(a, b),
-        },
+        Mode::Intake => Ok(agreed),
+        Mode::Archive => Ok(q),
     }
 }
 
 // State 0.
-pub fn root(mode: Mode, p: usize, q: usize) -> Meet
-    requires { (p ≤ 65536) × (q ≤ 65536) }
-    ensures { Meets (root mode (uncoded p) (uncoded q)) result }
+#[tactic(auto, unfolding(paper::specs::Unite::root))]
+pub fn root(
+    mode: Mode,
+    p: Option<Production>,
+    q: Option<Production>,
+) -> Result<Option<Production>, Refusal>
+    ensures { Meets (root mode (given p) (given q)) result }
 {
     match mode {
         Mode::Intake => agree(p, q),
-        Mode::Archive => Meet::Code(p),
+        Mode::Archive => Ok(p),
     }
 }
 
 // The united table's k.
+#[tactic(auto, unfolding(paper::specs::Unite::united_k))]
 pub fn united_k(mode: Mode, a: usize, b: usize) -> usize
     ensures { result ≡ united_k mode a b }
 {
-    let most = grow::larger(a, b);
     match mode {
-        Mode::Intake => most,
+        Mode::Intake => a.max(b),
         Mode::Archive => a,
     }
 }

@@ -6,7 +6,7 @@ use mathlib.Core.Option.{Option, none, some}
 use mathlib.Core.List.{List, ◌∷◌, map}
 use Prim.Native.Nat.{ℕ, ◌≤◌}
 use native.Mathlib.Omega.{arith}
-use borrow.Author.Tests.{eq-eqb, ne_eqb}
+use borrow.Author.Tests.{ne_eqb}
 use lib.Dec.{eqb}
 use lib.ListN.{length}
 use Rattle.laws.proofs.Tests.{never}
@@ -16,7 +16,6 @@ use Rattle.paper.specs.Rows.{Row, find}
 use Rattle.paper.specs.Answers.{Ruling, accept, refuse, then}
 use Rattle.paper.specs.Build.{Standing}
 use Rattle.paper.specs.Unite.{taken, matched}
-use Rattle.rows.specs.Places.{uncoded}
 use Rattle.trees.specs.Reach.{Seat, seat_of, onward, Word, said}
 use Rattle.trees.specs.Views.{join}
 use Rattle.trees.proofs.Paths.{path, word, onward_some, onward_none, low}
@@ -27,35 +26,41 @@ use Rattle.trees.proofs.Order.{Next}
 use Rattle.trees.proofs.Took.{lead}
 use Rattle.trees.proofs.Matching.{Matching}
 use Rattle.unite_taking.specs.Taking.{so_far, taking}
-use Rattle.unite_scan.specs.Looking.{seek, looked}
+use Rattle.unite_scan.specs.Looking.{mark, unmark, seek, looked}
 use Rattle.unite_taking.proofs.Ongoing.{plain}
 
 -- the match that a seat stands for
-abbrev pub mark : Option Seat → ℕ
-mark none = 65535
-mark (some z) = z.state
+abbrev pub state_at : Option Seat → Option ℕ
+state_at none = none
+state_at (some z) = some z.state
+
+-- a state's match is read as it was written
+pub read_back : (o : Option ℕ) → ((s : ℕ) → o ≡ some s → s ≤ 1023) → unmark (mark o) ≡ o
+read_back none h = refl
+read_back (some s) h =
+    let n : eqb s 65535 ≡ false = ne_eqb s 65535 (λ d. omega (arith, h s refl)) in rw n
 
 -- where the first leads, one terminal further, by its match
 pub lead_on : (xs : List Row) (w : List ℕ) (t : ℕ) → Tree xs → length xs ≤ 1023
-    → lead (plain xs) (t ∷ w) ≡ seat_of (seek xs (mark (lead (plain xs) w)) t)
+    → lead (plain xs) (t ∷ w) ≡ seat_of (seek xs (unmark (mark (state_at (lead (plain xs) w)))) t)
 unfolding path onward seek seat_of
 lead_on xs w t tr h = go (lead (plain xs) w) refl
   where
-    go : (o : Option Seat) → lead (plain xs) w ≡ o → onward (find xs) o t ≡ seat_of (seek xs (mark o) t)
+    go : (o : Option Seat) → lead (plain xs) w ≡ o
+        → onward (find xs) o t ≡ seat_of (seek xs (unmark (mark (state_at o))) t)
     go none e = refl
     go (some z) e =
         let l : z.state ≤ length xs = low none (find xs) (length xs) tr.cap w z e in
-        let n : eqb z.state 65535 ≡ false = ne_eqb z.state 65535 (λ d. omega arith) in
-        sym (rw n)
+        rw (read_back (some z.state) (λ s d. let k : z.state ≡ s = cc in omega arith))
 
 -- what is looked up is what follows
-pub looked_match : (mode : Mode) (q : Option ℕ) (g : Option Row) (v : ℕ) → looked mode q g ≡ accept v
-    → v ≡ mark (seat_of g)
+pub looked_match : (mode : Mode) (q : Option ℕ) (g : Option Row) (v : Option ℕ) → looked mode q g ≡ accept v
+    → v ≡ state_at (seat_of g)
 unfolding looked seat_of
 looked_match mode q none v e = cc
 looked_match mode q (some x) v e = go (taken mode x.production q) e
   where
-    go : (k : Ruling (Option ℕ)) → then k (λ _. accept x.to) ≡ accept v → v ≡ x.to
+    go : (k : Ruling (Option ℕ)) → then k (λ _. accept (some x.to)) ≡ accept v → v ≡ some x.to
     go (accept z) e = cc
     go (refuse n d) e = refuse_accept e
 
@@ -106,9 +111,9 @@ module _ (mode : Mode) (rs : List Row) (s t : ℕ) (q : Option ℕ) where
   alike_refused none (some z) x4 n d e = elim x4 [ ]
   alike_refused (some x) none x5 n d e = elim x5 [ ]
   alike_refused (some x) (some z) (both k) n d e =
-      rw (← k, refused_is (λ _. x.to) (taken mode x.production q) n d (sym e))
+      rw (← k, refused_is (λ _. some x.to) (taken mode x.production q) n d (sym e))
 
-  pub alike_taken : (g o : Option Row) → Alike g o → (v : ℕ) → looked mode q g ≡ accept v
+  pub alike_taken : (g o : Option Row) → Alike g o → (v : Option ℕ) → looked mode q g ≡ accept v
       → (w : Standing) × (taking mode rs s t q o ≡ accept w)
   unfolding looked taking
   alike_taken none none neither v e = (_, refl)
@@ -116,33 +121,9 @@ module _ (mode : Mode) (rs : List Row) (s t : ℕ) (q : Option ℕ) where
   alike_taken (some x) none x5 v e = elim x5 [ ]
   alike_taken (some x) (some z) (both k) v e = rw (← k) (go (taken mode x.production q) e)
     where
-      go : (g : Ruling (Option ℕ)) → ◌≡◌ {A = Ruling ℕ} (then g (λ _. accept x.to)) (accept v)
+      go : (g : Ruling (Option ℕ)) → ◌≡◌ {A = Ruling (Option ℕ)} (then g (λ _. accept (some x.to))) (accept v)
           → (w : Standing) × (then {B = Standing} g
           (λ c. accept (record { rows = map (paint z.to c) rs; state = z.to }))
           ≡ accept w)
       go (accept c) e = (_, refl)
       go (refuse m f) e = absurd (let z : ◌≡◌ {A = ℕ} 0 1 = cc in omega arith)
-
--- ---- as the code looks
-module _ (mode : Mode) (q : Option ℕ) (x : Row) (p : ℕ) (e : uncoded p ≡ x.production) where
-  pub hit_clash : (d : List ℕ) → taken mode (uncoded p) q ≡ refuse 8 d → looked mode q (some x) ≡ refuse 8 d
-  unfolding looked
-  hit_clash d g = rw (← e, g)
-
-  pub hit_match : (z : Option ℕ) → taken mode (uncoded p) q ≡ accept z → (to : ℕ) → to ≡ x.to
-      → looked mode q (some x) ≡ accept to
-  unfolding looked
-  hit_match z g to k = rw (← e, g, k)
-
-module _ (mode : Mode) (q : Option ℕ) (rs : List Row) (m t : ℕ) where
-  pub look_none : m ≡ 65535 → looked mode q (seek rs m t) ≡ accept 65535
-  unfolding looked seek
-  look_none e = rw (eq-eqb m 65535 e)
-
-  pub seek_is : (m ≡ 65535 → ⊥) → (o : Option Row) → find rs m t ≡ o → o ≡ seek rs m t
-  unfolding seek
-  seek_is n o e = sym (rw (ne_eqb m 65535 n) e)
-
-  pub look_missing : (m ≡ 65535 → ⊥) → find rs m t ≡ none → looked mode q (seek rs m t) ≡ accept 65535
-  unfolding looked
-  look_missing n e = ap (looked mode q) (sym (seek_is n none e))

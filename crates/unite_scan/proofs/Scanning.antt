@@ -10,9 +10,13 @@ use lib.ListN.{length, get_or, set, length-set}
 use lib.Seq.{get_or-set_same, get_or-set_other}
 use lib.IntN.{ℤ}
 use Rattle.laws.proofs.Tests.{never}
+use Rattle.std.specs.Prelude.{Result}
+use Rattle.std.specs.declared.option.Option as rust
 use Rattle.paper.specs.declared.Mode.{Mode}
+use Rattle.paper.specs.declared.State.{State}
+use Rattle.paper.specs.declared.Refusal.{Refusal}
 use Rattle.paper.specs.Rows.{Row, rows_in, find}
-use Rattle.paper.specs.Answers.{Ruling, accept, refuse}
+use Rattle.paper.specs.Answers.{Ruling, accept, refuse, number, detail}
 use Rattle.paper.specs.Unite.{matched, take_rows}
 use Rattle.rows.specs.Places.{row_at, rest}
 use Rattle.rows.proofs.Rest.{rest_cons, rest_end, length_rows}
@@ -27,12 +31,11 @@ use Rattle.trees.proofs.Order.{Next, Ordered, ordered}
 use Rattle.trees.proofs.Took.{lead}
 use Rattle.trees.proofs.Matching.{Matching, start_of, grown_D}
 use Rattle.unite_taking.specs.Taking.{so_far, all_rows, Clashes, Accepts, Treed}
-use Rattle.unite_scan.specs.Looking.{seek, looked, Looks}
-use Rattle.unite_scan.specs.declared.Look.{Look}
+use Rattle.unite_scan.specs.Looking.{mark, unmark, seek, looked, Looks}
 use Rattle.unite_taking.proofs.Steps.{step_refused, step_taken, match_on, first_row}
-use Rattle.unite_taking.proofs.Ongoing.{plain, matching_none}
+use Rattle.unite_taking.proofs.Ongoing.{plain, matching_none, tree_of}
 use Rattle.unite_scan.proofs.Looked.{
-  mark,
+  state_at,
   lead_on,
   looked_match,
   own_none,
@@ -46,7 +49,7 @@ use Rattle.unite_scan.proofs.Looked.{
 -- the map holds for each state reached by the rows D its match in xs
 abbrev pub Marks : List Row → List Row → List ℕ → Type 0
 Marks xs D map = (v : List ℕ) (y : Seat) → path none (find D) v ≡ some y
-    → get_or map y.state 0 ≡ mark (lead (plain xs) v)
+    → get_or map y.state 0 ≡ mark (state_at (lead (plain xs) v))
 
 pub record Scanning (mode : Mode) (xs : List Row) (b : List ℤ) (map : List ℕ) (i : ℕ) : Type 0 where
   pub within : i ≤ length b / 4
@@ -77,7 +80,7 @@ scan_begins mode xs b map tr t m = record {
   rows = xs;
   matches = [];
   done = [];
-  order = ordered (rows_in b) t.tree;
+  order = ordered (rows_in b) (tree_of t);
   matching = matching_none mode xs tr;
   sized = m.sized;
   marks = marks_none xs map m;
@@ -125,14 +128,14 @@ module _ (mode : Mode) (xs : List Row) (b : List ℤ) (map : List ℕ) (i : ℕ)
     abbrev W : List ℕ
     W = from_path.0
 
-    from_mark : get_or map r.from 0 ≡ mark (lead (plain xs) W)
+    from_mark : get_or map r.from 0 ≡ mark (state_at (lead (plain xs) W))
     from_mark = ap (λ (s : ℕ). get_or map s 0) (sym from_path.3) ∙ o.marks W from_path.1 from_path.2
 
     abbrev G : Option Row
-    G = seek xs (get_or map r.from 0) r.terminal
+    G = seek xs (unmark (get_or map r.from 0)) r.terminal
 
     leads : lead (plain xs) (r.terminal ∷ W) ≡ seat_of G
-    leads = lead_on xs W r.terminal tr few ∙ ap (λ (m : ℕ). seat_of (seek xs m r.terminal)) (sym from_mark)
+    leads = lead_on xs W r.terminal tr few ∙ ap (λ (m : ℕ). seat_of (seek xs (unmark m) r.terminal)) (sym from_mark)
 
     -- the first and the union so far have a row with one production, or neither has one
     one_production : Alike G (find o.rows (matched o.matches r.from) r.terminal)
@@ -148,43 +151,44 @@ module _ (mode : Mode) (xs : List Row) (b : List ℤ) (map : List ℕ) (i : ℕ)
         x e₁ e₃)
         (ap said leads)
 
-    pub scan_clashes : (x y : ℕ) → looked mode r.production G ≡ refuse 8 (x ∷ y ∷ [])
-        → Clashes mode xs (rows_in b) x y
-    scan_clashes x y e = record {
+    pub scan_clashes : (f : Refusal) → looked mode r.production G ≡ refuse (number f) (detail f)
+        → Clashes mode xs (rows_in b) f
+    scan_clashes f e = record {
       is = λ p k. here p k
-          ∙ step_refused mode o.rows o.matches o.matching.tree r 8 (x ∷ y ∷ [])
+          ∙ step_refused mode o.rows o.matches o.matching.tree r (number f) (detail f)
           (alike_refused mode o.rows (matched o.matches r.from) r.terminal r.production G _
-          one_production 8
-          (x ∷ y ∷ []) e)
+          one_production (number f) (detail f) e)
           p k (rest b (i + 1));
     }
 
     -- the row's own match is known too
-    marks_on : (u : ℕ) → looked mode r.production G ≡ accept u → Marks xs (o.done ++ (r ∷ [])) (set map r.to u)
+    marks_on : (u : Option ℕ) → looked mode r.production G ≡ accept u
+        → Marks xs (o.done ++ (r ∷ [])) (set map r.to (mark u))
     marks_on u e v y d = go (List-discrete ℕ_discrete v (r.terminal ∷ W))
       where
         grown : Grown none (find o.done) (find (o.done ++ (r ∷ []))) W from_path.1 r.terminal r
         grown = grown_D mode (word (plain xs)) none o.done (so_far none 0 o.rows o.matches) o.matching r
             first.0 W from_path.1 from_path.2 from_path.3
 
-        go : Dec (v ≡ r.terminal ∷ W) → get_or (set map r.to u) y.state 0 ≡ mark (lead (plain xs) v)
+        go : Dec (v ≡ r.terminal ∷ W) → get_or (set map r.to (mark u)) y.state 0 ≡ mark (state_at (lead (plain xs) v))
         go (yes k) =
             let s : path none (find (o.done ++ (r ∷ []))) v ≡ some (sit r) =
             ap (path none (find (o.done ++ (r ∷ [])))) k
             ∙ grown_here none (find o.done) (find (o.done ++ (r ∷ []))) W from_path.1 r.terminal r
             grown in
             let z : y.state ≡ r.to = cc in
-            ap (λ (x : ℕ). get_or (set map r.to u) x 0) z
-            ∙ get_or-set_same map r.to u 0 (omega (arith, scan_fit.to, o.sized))
-            ∙ looked_match mode r.production G u e ∙ ap mark (sym leads)
-            ∙ ap (λ (w : List ℕ). mark (lead (plain xs) w)) (sym k)
+            ap (λ (x : ℕ). get_or (set map r.to (mark u)) x 0) z
+            ∙ get_or-set_same map r.to (mark u) 0 (omega (arith, scan_fit.to, o.sized))
+            ∙ ap mark (looked_match mode r.production G u e) ∙ ap (λ (x : Option Seat). mark (state_at x)) (sym leads)
+            ∙ ap (λ (w : List ℕ). mark (state_at (lead (plain xs) w))) (sym k)
         go (no n) =
             let s : path none (find o.done) v ≡ some y =
             sym (grown_other none (find o.done) (find (o.done ++ (r ∷ []))) W from_path.1 r.terminal r
             grown v n) ∙ d in
-            get_or-set_other map r.to y.state u 0 (not_there o.done r first.0 v y s) ∙ o.marks v y s
+            get_or-set_other map r.to y.state (mark u) 0 (not_there o.done r first.0 v y s) ∙ o.marks v y s
 
-    pub scan_on : (u : ℕ) → looked mode r.production G ≡ accept u → Scanning mode xs b (set map r.to u) (i + 1)
+    pub scan_on : (u : Option ℕ) → looked mode r.production G ≡ accept u
+        → Scanning mode xs b (set map r.to (mark u)) (i + 1)
     scan_on u e =
         let (w, d) = alike_taken mode o.rows (matched o.matches r.from) r.terminal r.production G
         (find o.rows (matched o.matches r.from) r.terminal) one_production u e in
@@ -202,12 +206,11 @@ module _ (mode : Mode) (xs : List Row) (b : List ℤ) (map : List ℕ) (i : ℕ)
               (rest b (i + 1));
         }
 
-pub few_rows : (ns : List ℤ) → Treed ns → length (rows_in ns) ≤ 1023
-few_rows ns t = omega (arith, length_rows ns, t.whole)
+pub few_rows : {ns : List ℤ} → Treed ns → length (rows_in ns) ≤ 1023
+few_rows {ns} t = omega (arith, length_rows ns, t.whole)
 
 -- what was looked up, as another says it
-pub looks_as : (mode : Mode) (rs : List Row) {m n t u : ℕ} {p q : Option ℕ} {x y : Look} → m ≡ n → t ≡ u → p ≡ q → x ≡ y
-    → Looks (looked mode p (seek rs m t)) x → Looks (looked mode q (seek rs n u)) y
-looks_as mode rs {m} {n} {t} {u} {p} {q} {x} {y} a b c d k =
-    let e : looked mode p (seek rs m t) ≡ looked mode q (seek rs n u) = λ j. looked mode (c j) (seek rs (a j) (b j)) in
-    subst (λ (g : Ruling ℕ). Looks g y) e (subst (λ (z : Look). Looks (looked mode p (seek rs m t)) z) d k)
+pub looks_as : (mode : Mode) (rs : List Row) (v : Result (rust.Option State) Refusal) {m n : Option ℕ} {t u : ℕ}
+    {p q : Option ℕ} → m ≡ n → t ≡ u → p ≡ q
+    → Looks (looked mode p (seek rs m t)) v → Looks (looked mode q (seek rs n u)) v
+looks_as mode rs v a b c k = subst (λ (g : Ruling (Option ℕ)). Looks g v) (λ j. looked mode (c j) (seek rs (a j) (b j))) k

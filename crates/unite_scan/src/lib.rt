@@ -1,79 +1,90 @@
 // The rows of the second looked up in the first alone: whether two productions clash.
 #![tactic(auto)]
 
-ghost use Rattle.std.specs.Prelude.{◌/◌, ◌<◌, ◌≤◌, length};
-ghost use Rattle.paper.specs.Rows.{rows_in};
-ghost use Rattle.rows.specs.Places.{row_at, uncoded};
-ghost use Rattle.rows.specs.Passed.{Passed};
+ghost use Rattle.std.specs.Prelude.{◌≡◌, ◌/◌, ◌<◌, length};
 ghost use Rattle.std.proofs.Math.Option.{some};
+ghost use Rattle.paper.specs.Rows.{rows_in};
+ghost use Rattle.rows.specs.Places.{row_at, given};
 ghost use Rattle.counts.specs.Arrays.{Clear};
-ghost use Rattle.unite_taking.specs.Taking.{Treed};
-ghost use Rattle.unite_scan.specs.Looking.{looked, seek, Looks, Scanned};
+ghost use Rattle.unite_scan.specs.Looking.{state_of, mark, unmark, looked, seek, Looks, Scanned};
 
-use paper::{Mode, Production, State, Terminal};
-use rows::numbers;
-use search::Found;
-use unite_meet::Meet;
+use paper::{Mode, Production, Refusal, State, Terminal};
+use rows::Rows;
+use unite_taking::TreeRows;
 
-// What one row comes to: CLASH, or the state of the first that it matches, 65,535 for none.
-#[derive(Clone, Copy)]
-pub enum Look {
-    Clash(Production, Production),
-    Match(State),
-}
+// What the map holds for a state with no match: an Option would take twice the room, and the arrays of a call are fixed.
+const NO_MATCH: u16 = 65535;
 
-// CLASH, or none.
-#[derive(Clone, Copy)]
-pub enum Scan {
-    Clash(Production, Production),
-    Free,
-}
-
-// A row that the first has as its row i.
-fn hit(mode: Mode, a: &[i32], i: usize, code: usize) -> Look
-    requires { Passed a.now × (i < length a.now / 4) × (code ≤ 65536) }
-    ensures { Looks (looked mode (uncoded code) (some (row_at a.now i))) result }
+// The match that the map holds.
+fn unmark(m: u16) -> Option<State>
+    ensures { state_of result ≡ unmark m }
 {
-    let to = State(numbers::to_at(a, i) as u16);
-    let met = unite_meet::taken(mode, numbers::code_at(a, i), code);
-    match met {
-        Meet::Clash(p, q) => Look::Clash(p, q),
-        Meet::Code(_) => Look::Match(to),
+    if m == NO_MATCH { None } else { Some(State(m)) }
+}
+
+// What the map holds for a match.
+fn mark(found: Option<State>) -> u16
+    ensures { result ≡ mark (state_of found) }
+{
+    match found {
+        None => NO_MATCH,
+        Some(state) => state.0,
     }
+}
+
+// A row that the first has as its row i: the state that it leads to, unless the productions clash.
+#[tactic(auto, unfolding(crate::specs::Looking::looked))]
+fn hit(
+    mode: Mode,
+    first: Rows,
+    i: usize,
+    production: Option<Production>,
+) -> Result<Option<State>, Refusal>
+    requires { i < length first.numbers.now / 4 }
+    ensures { Looks (looked mode (given production) (some (row_at first.entry.numbers.now i))) result }
+{
+    unite_meet::taken(mode, first.production(i), production)?;
+    Ok(Some(State(first.to(i) as u16)))
 }
 
 // A row from the match of a state by a token: a state without a match leads to states without.
-fn look_up(mode: Mode, a: &[i32], from: State, token: Terminal, code: usize) -> Look
-    requires { Passed a.now × (code ≤ 65536) }
-    ensures { Looks (looked mode (uncoded code) (seek (rows_in a.now) from.0 token.0)) result }
+#[tactic(auto, unfolding(crate::specs::Looking::looked, crate::specs::Looking::seek))]
+fn look_up(
+    mode: Mode,
+    first: Rows,
+    from: Option<State>,
+    token: Terminal,
+    production: Option<Production>,
+) -> Result<Option<State>, Refusal>
+    ensures { Looks (looked mode (given production) (seek (rows_in first.entry.numbers.now) (state_of from) token.0))
+        result }
 {
-    if from.0 == 65535 {
-        return Look::Match(State(65535));
-    }
-    let found = search::find(a, from, token);
-    match found {
-        Found::At(i) => hit(mode, a, i, code),
-        Found::Missing(_) => Look::Match(State(65535)),
+    let Some(state) = from else {
+        return Ok(None);
+    };
+    match search::find(first, state, token) {
+        Ok(i) => hit(mode, first, i, production),
+        Err(_) => Ok(None),
     }
 }
 
-// All rows of the second, in order; the map holds the match of each of its states.
-pub fn clash(mode: Mode, a: &[i32], b: &[i32], map: &mut [u16; 1024]) -> Scan
-    requires { Treed a.now × Treed b.now × Clear map.old }
-    ensures { Scanned mode (rows_in a.now) (rows_in b.now) result }
+// All rows of the second, in order; the map holds the match of each of its states. One walk for this and for `take_rows`
+// would be handed each step as a closure with a contract, longer than the loop.
+pub fn clash(
+    mode: Mode,
+    first: TreeRows,
+    second: TreeRows,
+    map: &mut [u16; 1024],
+) -> Result<(), Refusal>
+    requires { Clear map.old }
+    ensures { Scanned mode (rows_in first.entry.rows.numbers.now) (rows_in second.entry.rows.numbers.now) result }
 {
-    let mut i = 0;
-    while i < b.len() / 4 {
-        let from = State(map[numbers::from_at(b, i)]);
-        let token = Terminal(numbers::terminal_at(b, i) as u16);
-        let found = look_up(mode, a, from, token, numbers::code_at(b, i));
-        match found {
-            Look::Clash(p, q) => return Scan::Clash(p, q),
-            Look::Match(to) => {
-                map[numbers::to_at(b, i)] = to.0;
-                i += 1;
-            }
-        }
+    let rows = second.rows;
+    for i in 0..rows.count() {
+        let from = unmark(map[rows.from(i)]);
+        let token = Terminal(rows.terminal(i) as u16);
+        let to = look_up(mode, first.rows, from, token, rows.production(i))?;
+        map[rows.to(i)] = mark(to);
     }
-    Scan::Free
+    Ok(())
 }

@@ -1,135 +1,116 @@
-// The rows of the second table taken into the rows of an array, in order.
+// The rows of the second table taken into rows that grow, in order.
 #![tactic(auto)]
 
-ghost use Rattle.std.specs.Prelude.{◌≤◌};
+ghost use Rattle.std.specs.Prelude.{◌≡◌, ◌<◌, ◌≤◌};
 ghost use Rattle.paper.specs.Rows.{find, rows_in};
-ghost use Rattle.rows.specs.Places.{uncoded};
-ghost use Rattle.grow_laws.specs.Held.{view, held, row_held, Laid, Missed};
+ghost use Rattle.rows.specs.Places.{given};
+ghost use Rattle.grow_laws.specs.Held.{row_held, Missed};
+ghost use Rattle.grow.specs.Seen.{seen, rows_of};
 ghost use Rattle.trees.proofs.Tree.{Tree};
 ghost use Rattle.counts.specs.Arrays.{Clear};
-ghost use Rattle.unite_taking.specs.Taking.{taking, Takes, Adds, Matches, Hit, UnitedRows, Treed};
+ghost use Rattle.unite_taking.specs.Taking.{taking, Takes, Adds, Matches, UnitedRows, Treed};
 
-use paper::{Mode, Production, State, Terminal};
-use rows::numbers;
-use search::Found;
-use unite_meet::Meet;
+use grow::Growing;
+use paper::{Mode, Production, Refusal, State, Terminal};
+use rows::Rows;
 
-// What came of one row: where the rows begin, how many they are and the state that it matches; CLASH; or a row too many.
+// A tree has at most so many rows: one fewer than states.
+const MOST_ROWS: usize = 1023;
+
+// The rows of a tree with at most 1,023 rows.
 #[derive(Clone, Copy)]
-pub enum Took {
-    Row {
-        lo: usize,
-        rows: usize,
-        state: State,
-    },
-    Clash(Production, Production),
-    Full,
+pub struct TreeRows<'a> {
+    pub rows: Rows<'a>,
+    ghost treed: { Treed rows.numbers.now },
 }
 
-// What came of all rows: where the rows begin and how many they are, CLASH, or a row too many.
-#[derive(Clone, Copy)]
-pub enum Union {
-    Rows { lo: usize, rows: usize },
-    Clash(Production, Production),
-    Full,
+impl<'a> From<ruled::Tree<'a>> for TreeRows<'a> {
+    ghost from_gives = { λ lent result. result.rows.numbers.now ≡ lent.table.rows.now };
+
+    // The rows of a table that passed the checks 1 to 7.
+    #[tactic(auto, using(crate::proofs::Passing::rows_passed, crate::proofs::Passing::treed))]
+    fn from(lent: ruled::Tree<'a>) -> TreeRows<'a> {
+        TreeRows {
+            rows: Rows {
+                numbers: lent.table.rows,
+            },
+        }
+    }
 }
 
 // A row that the first does not have: into a new state, unless there are 1,023 rows.
 fn added(
-    buf: &mut [i32],
-    lo: usize,
-    n: usize,
+    growing: &mut Growing,
     i: usize,
     from: State,
     token: Terminal,
-    code: usize,
-) -> Took
-    requires { Missed (view buf.old lo) n i from.0 token.0 × (code ≤ 65536) }
-    ensures { Adds buf.new (held (view buf.old lo) n) from.0 token.0
-        (uncoded code) result }
+    production: Option<Production>,
+) -> Result<State, Refusal>
+    requires { Missed (seen growing.old) growing.old.n i from.0 token.0 }
+    ensures { Adds growing.new (rows_of growing.old) from.0 token.0 (given production) result }
 {
-    if 1023 <= n {
-        return Took::Full;
+    let n = growing.count();
+    if MOST_ROWS <= n {
+        return Err(Refusal::Full);
     }
-    let low = grow::add(buf, lo, n, i, from, token, code);
-    Took::Row {
-        lo: low,
-        rows: n + 1,
-        state: State((n + 1) as u16),
-    }
+    growing.add(i, from, token, production);
+    Ok(State((n + 1) as u16))
 }
 
 // A row that the first has as its row i: the state that it leads to takes a production.
-fn matched(mode: Mode, buf: &mut [i32], lo: usize, n: usize, i: usize, code: usize) -> Took
-    requires { Hit (view buf.old lo) n i code }
-    ensures { Matches mode buf.new (held (view buf.old lo) n) (uncoded code)
-        (row_held (view buf.old lo) n i) result }
+#[tactic(auto, unfolding(crate::specs::Taking::taking))]
+fn matched(
+    mode: Mode,
+    growing: &mut Growing,
+    i: usize,
+    production: Option<Production>,
+) -> Result<State, Refusal>
+    requires { Tree (rows_of growing.old) × (i < growing.old.n) }
+    ensures { Matches mode growing.new (rows_of growing.old) (given production)
+        (row_held (seen growing.old) growing.old.n i) result }
 {
-    let state = grow::to_at(buf, lo, n, i);
-    let met = unite_meet::taken(mode, grow::code_at(buf, lo, n, i), code);
-    match met {
-        Meet::Clash(p, q) => Took::Clash(p, q),
-        Meet::Code(c) => {
-            grow::give(buf, lo, n, i, c);
-            Took::Row { lo, rows: n, state }
-        }
-    }
+    let state = growing.to(i);
+    let met = unite_meet::taken(mode, growing.production(i), production)?;
+    growing.give(i, met);
+    Ok(state)
 }
 
 // A row from a state by a token: found, or added.
 fn take_row(
     mode: Mode,
-    buf: &mut [i32],
-    lo: usize,
-    n: usize,
+    growing: &mut Growing,
     from: State,
     token: Terminal,
-    code: usize,
-) -> Took
-    requires { Laid (view buf.old lo) n × Tree (held (view buf.old lo) n) × (from.0 ≤ 1023)
-        × (code ≤ 65536) }
-    ensures { Takes buf.new
-        (taking mode (held (view buf.old lo) n) from.0 token.0 (uncoded code)
-        (find (held (view buf.old lo) n) from.0 token.0)) result }
+    production: Option<Production>,
+) -> Result<State, Refusal>
+    requires { Tree (rows_of growing.old) × (from.0 ≤ 1023) }
+    ensures { Takes growing.new
+        (taking mode (rows_of growing.old) from.0 token.0 (given production)
+        (find (rows_of growing.old) from.0 token.0)) result }
 {
-    let found = grow::find(buf, lo, n, from, token);
-    match found {
-        Found::At(i) => matched(mode, buf, lo, n, i, code),
-        Found::Missing(i) => added(buf, lo, n, i, from, token, code),
+    match growing.find(from, token) {
+        Ok(i) => matched(mode, growing, i, production),
+        Err(i) => added(growing, i, from, token, production),
     }
 }
 
 // All rows of the second, in order; the map holds the match of each of its states.
 pub fn take_rows(
     mode: Mode,
-    buf: &mut [i32],
-    lo: usize,
-    count: usize,
-    b: &[i32],
+    growing: &mut Growing,
+    second: TreeRows,
     map: &mut [u16; 1024],
-) -> Union
-    requires { Laid (view buf.old lo) count × Tree (held (view buf.old lo) count) × Treed b.now
-        × Clear map.old }
-    ensures { UnitedRows mode (held (view buf.old lo) count) (rows_in b.now)
-        buf.new result }
+) -> Result<(), Refusal>
+    requires { Tree (rows_of growing.old) × Clear map.old }
+    ensures { UnitedRows mode (rows_of growing.old) (rows_in second.entry.rows.numbers.now)
+        growing.new result }
 {
-    let mut l = lo;
-    let mut n = count;
-    let mut i = 0;
-    while i < b.len() / 4 {
-        let from = State(map[numbers::from_at(b, i)]);
-        let token = Terminal(numbers::terminal_at(b, i) as u16);
-        let took = take_row(mode, buf, l, n, from, token, numbers::code_at(b, i));
-        match took {
-            Took::Clash(p, q) => return Union::Clash(p, q),
-            Took::Full => return Union::Full,
-            Took::Row { lo, rows, state } => {
-                map[numbers::to_at(b, i)] = state.0;
-                l = lo;
-                n = rows;
-                i += 1;
-            }
-        }
+    let rows = second.rows;
+    for i in 0..rows.count() {
+        let from = State(map[rows.from(i)]);
+        let token = Terminal(rows.terminal(i) as u16);
+        let state = take_row(mode, growing, from, token, rows.production(i))?;
+        map[rows.to(i)] = state.0;
     }
-    Union::Rows { lo: l, rows: n }
+    Ok(())
 }

@@ -1,116 +1,48 @@
-use mathlib.Core.Path.{◌≡◌, ap, ◌∙◌}
-use Prim.Native.Nat.{ℕ}
-use native.Mathlib.Omega.{arith}
+use mathlib.Core.Path.{ap, ◌∙◌}
 use lib.ListN.{get_or}
+use native.Mathlib.Omega.{arith}
+use Prim.Native.Nat.{ℕ}
+use Rattle.std.specs.Prelude.{Ok, Err}
+use Rattle.std.proofs.lemmas.Result.{err_from_is_err_and}
 use Rattle.paper.specs.Rows.{rows_in}
-use Rattle.rows.specs.Places.{row_at, uncoded}
-use Rattle.rows.proofs.Fits.{Fit}
-use Rattle.unite_scan.specs.Looking.{seek, looked, Looks}
-use Rattle.unite_scan.specs.declared.Look.{Look}
-use Rattle.rows.proofs.Codes.{uncoded_code}
-use Rattle.unite_scan.proofs.Scanning.{scan_begins, scan_ends, scan_fit, scan_clashes, scan_on, few_rows}
-use Rattle.unite_scan.proofs.Scanning.{looks_as}
+use Rattle.unite_scan.specs.Looking.{unmark}
+use Rattle.unite_taking.proofs.Ongoing.{tree_of}
+use Rattle.unite_scan.proofs.Scanning.{scan_begins, scan_ends, scan_clashes, scan_on, few_rows, looks_as}
 use Rattle.unite_scan.proofs.clash.Goals as goal
 
 pub loop-i-init : goal.loop-i-init
 loop-i-init c =
     let a = c.args in
-    scan_begins a.mode (rows_in a.a.now) a.b.now a.map.now c.requires.0.tree c.requires.1 c.requires.2
+    scan_begins a.mode (rows_in a.first.rows.numbers.now) a.second.rows.numbers.now a.map.now (tree_of a.first.treed)
+    a.second.treed c.requires
 
-pub from_at-requires : goal.from_at-requires
-from_at-requires c = omega arith
-
-pub offset_bounds-map-from_at : goal.offset_bounds-map-from_at
-offset_bounds-map-from_at c =
-    let fitting : Fit (row_at c.args.b.now c.loop-i.i) = let a = c.args in
-    scan_fit a.mode (rows_in a.a.now) a.b.now c.loop-i.map c.loop-i.i c.loop-i.invariant c.requires.0.tree
-    (few_rows a.a.now c.requires.0) c.requires.1 (omega arith) in
-    omega (arith, c.from_at.ensures.is, fitting.from)
-
-pub bounds-map-from_at : goal.bounds-map-from_at
-bounds-map-from_at c =
-    let fitting : Fit (row_at c.args.b.now c.loop-i.i) = let a = c.args in
-    scan_fit a.mode (rows_in a.a.now) a.b.now c.loop-i.map c.loop-i.i c.loop-i.invariant c.requires.0.tree
-    (few_rows a.a.now c.requires.0) c.requires.1 (omega arith) in
-    omega (arith, c.from_at.ensures.is, fitting.from)
-
-pub terminal_at-requires : goal.terminal_at-requires
-terminal_at-requires c = omega arith
-
-pub overflow_cast-token : goal.overflow_cast-token
-overflow_cast-token c =
-    let fitting : Fit (row_at c.args.b.now c.loop-i.i) = let a = c.args in
-    scan_fit a.mode (rows_in a.a.now) a.b.now c.loop-i.map c.loop-i.i c.loop-i.invariant c.requires.0.tree
-    (few_rows a.a.now c.requires.0) c.requires.1 (omega arith) in
-    omega (arith, c.terminal_at.ensures.is, fitting.terminal)
-
-pub code_at-requires : goal.code_at-requires
-code_at-requires c = omega arith
-
-pub look_up-found-requires : goal.look_up-found-requires
-look_up-found-requires c =
-    let fitting : Fit (row_at c.args.b.now c.loop-i.i) = let a = c.args in
-    scan_fit a.mode (rows_in a.a.now) a.b.now c.loop-i.map c.loop-i.i c.loop-i.invariant c.requires.0.tree
-    (few_rows a.a.now c.requires.0) c.requires.1 (omega arith) in
-    (c.requires.0.passed, omega (arith, c.code_at.ensures.is, fitting.production))
-
-pub returns-in-Clash : goal.returns-in-Clash
-returns-in-Clash c =
-    let came : (x : Look) → c.look_up-found.result ≡ x
-    → let r = row_at c.args.b.now c.loop-i.i in
-    Looks (looked c.args.mode r.production
-    (seek (rows_in c.args.a.now) (get_or c.loop-i.map r.from 0) r.terminal)) x = λ x e. let a = c.args in
-    let r = row_at a.b.now c.loop-i.i in
-    looks_as a.mode (rows_in a.a.now) (ap (λ (z : ℕ). get_or c.loop-i.map z 0) c.from_at.ensures.is)
-    c.terminal_at.ensures.is (ap uncoded c.code_at.ensures.is ∙ uncoded_code r.production) e
-    c.look_up-found.ensures in
+pub returns-in_err-to : goal.returns-in_err-to
+returns-in_err-to c =
     let a = c.args in
-    scan_clashes a.mode (rows_in a.a.now) a.b.now c.loop-i.map c.loop-i.i c.loop-i.invariant
-    c.requires.0.tree
-    (few_rows a.a.now c.requires.0) c.requires.1 c.loop-i-test.true _ _
-    (came _ c.in-Clash.is)
-
-pub to_at-requires : goal.to_at-requires
-to_at-requires c = omega arith
-
-pub offset_bounds-map-to_at : goal.offset_bounds-map-to_at
-offset_bounds-map-to_at c =
-    let fitting : Fit (row_at c.args.b.now c.loop-i.i) = let a = c.args in
-    scan_fit a.mode (rows_in a.a.now) a.b.now c.loop-i.map c.loop-i.i c.loop-i.invariant c.requires.0.tree
-    (few_rows a.a.now c.requires.0) c.requires.1 (omega arith) in
-    omega (arith, c.to_at.ensures.is, fitting.to)
-
-pub bounds-map-to_at : goal.bounds-map-to_at
-bounds-map-to_at c =
-    let fitting : Fit (row_at c.args.b.now c.loop-i.i) = let a = c.args in
-    scan_fit a.mode (rows_in a.a.now) a.b.now c.loop-i.map c.loop-i.i c.loop-i.invariant c.requires.0.tree
-    (few_rows a.a.now c.requires.0) c.requires.1 (omega arith) in
-    omega (arith, c.to_at.ensures.is, fitting.to)
-
-pub overflow_add-i : goal.overflow_add-i
-overflow_add-i c = omega arith
-
-pub loop-i-smaller : goal.loop-i-smaller
-loop-i-smaller c = omega arith
+    let xs = rows_in a.first.rows.numbers.now in
+    let l = c.loop-i in
+    let p = err_from_is_err_and c.from_residual.result c.from_residual.ensures.1 in
+    rw (p.1, p.2)
+    (scan_clashes a.mode xs a.second.rows.numbers.now l.map l.i l.invariant (tree_of a.first.treed)
+    (few_rows a.first.treed) a.second.treed (omega arith) c.in_err-to.field-0.0
+    (looks_as a.mode xs (Err c.in_err-to.field-0.0)
+    (c.unmark-from.ensures ∙ ap (λ (z : ℕ). unmark (get_or l.map z 0)) c.from.ensures.0)
+    c.terminal.ensures.0 c.production.ensures c.in_err-to.ensures))
 
 pub loop-i-preserved : goal.loop-i-preserved
 loop-i-preserved c =
-    let came : (x : Look) → c.look_up-found.result ≡ x
-    → let r = row_at c.args.b.now c.loop-i.i in
-    Looks (looked c.args.mode r.production
-    (seek (rows_in c.args.a.now) (get_or c.loop-i.map r.from 0) r.terminal)) x = λ x e. let a = c.args in
-    let r = row_at a.b.now c.loop-i.i in
-    looks_as a.mode (rows_in a.a.now) (ap (λ (z : ℕ). get_or c.loop-i.map z 0) c.from_at.ensures.is)
-    c.terminal_at.ensures.is (ap uncoded c.code_at.ensures.is ∙ uncoded_code r.production) e
-    c.look_up-found.ensures in
     let a = c.args in
-    rw c.to_at.ensures.is
-    (scan_on a.mode (rows_in a.a.now) a.b.now c.loop-i.map c.loop-i.i c.loop-i.invariant c.requires.0.tree
-    (few_rows a.a.now c.requires.0) c.requires.1 c.loop-i-test.true _
-    (came _ c.in-Match.is))
+    let xs = rows_in a.first.rows.numbers.now in
+    let l = c.loop-i in
+    rw (c.to.ensures.0, c.mark.ensures)
+    (scan_on a.mode xs a.second.rows.numbers.now l.map l.i l.invariant (tree_of a.first.treed)
+    (few_rows a.first.treed) a.second.treed (omega arith) _
+    (looks_as a.mode xs (Ok c.in_ok-to.to)
+    (c.unmark-from.ensures ∙ ap (λ (z : ℕ). unmark (get_or l.map z 0)) c.from.ensures.0)
+    c.terminal.ensures.0 c.production.ensures c.in_ok-to.ensures))
 
 pub returns : goal.returns
 returns c =
     let a = c.args in
-    scan_ends a.mode (rows_in a.a.now) a.b.now c.loop-i.map c.loop-i.i c.loop-i.invariant
-    c.loop-i-test.false
+    let l = c.loop-i in
+    scan_ends a.mode (rows_in a.first.rows.numbers.now) a.second.rows.numbers.now l.map l.i l.invariant (omega arith)

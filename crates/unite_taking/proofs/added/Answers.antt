@@ -1,14 +1,18 @@
+use mathlib.Core.Path.{refl}
 use native.Mathlib.Omega.{arith}
-use Rattle.grow_laws.specs.Held.{view}
+use Rattle.rows.specs.Places.{given}
+use Rattle.unite_taking.specs.Taking.{full}
 use Rattle.unite_taking.proofs.Rowed.{adds_over, adds_row}
 use Rattle.unite_taking.proofs.added.Goals as goal
 
-pub returns-then-n-ge1023 : goal.returns-then-n-ge1023
-returns-then-n-ge1023 c mode =
-    adds_over (view c.args.buf.now c.args.lo) c.args.n c.args.i c.args.from.0 c.args.token.0 c.args.code
-    c.requires.0 mode c.if-n-ge1023.true
+pub returns-then-n-ge-MOST_ROWS : goal.returns-then-n-ge-MOST_ROWS
+returns-then-n-ge-MOST_ROWS c mode =
+    let a = c.args in
+    full refl (adds_over a.growing.now a.from.0 a.token.0 (given a.production) mode (omega arith))
 
 pub returns : goal.returns
 returns c mode =
-    adds_row (view c.args.buf.now c.args.lo) c.args.n c.args.i c.args.from.0 c.args.token.0 c.args.code
-    c.requires.0 mode (omega arith) _ c.add-low.ensures
+    let a = c.args in
+    rw c.count-n.ensures
+    (adds_row a.growing.now a.from.0 a.token.0 (given a.production) mode (omega arith) c.add.new.self a.i
+    c.add.ensures.0 c.add.ensures.1)
