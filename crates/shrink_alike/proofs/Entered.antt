@@ -72,7 +72,11 @@ pub record Below (rs : List Row) (top : ℕ) : Type 0 where
   pub rows : (r : Row) → In r rs → r.to < top
 
 pub below_none : (ns : List ℤ) (i : ℕ) → length ns < i * 4 + 4 → Below (rest ns i) 1
-below_none ns i h = record { some = omega arith; few = omega arith; rows = λ r k. absurd (nowhere (rw (rest_end ns i h) at k)) }
+below_none ns i h = record {
+  some = omega arith;
+  few = omega arith;
+  rows = λ r k. absurd (nowhere (rw (rest_end ns i h) at k));
+}
 
 -- one row more, taken before those
 pub below_more : (ns : List ℤ) (i k t u : ℕ) → i + 1 ≡ k → i * 4 + 3 < length ns → Below (rest ns k) t
