@@ -5,8 +5,9 @@ use mathlib.Core.Bool.{true, false}
 use mathlib.Core.List.{List}
 use Prim.Native.Nat.{ℕ}
 use lib.IntN.{ℤ}
-use Rattle.paper.specs.declared.Making.{Making}
-use Rattle.paper.specs.declared.Making.TheVariants as making
+use Rattle.std.specs.Prelude.{Result, Err}
+use Rattle.paper.specs.declared.Heading.{Heading}
+use Rattle.paper.specs.declared.Refusal.{Refusal}
 use Rattle.paper.specs.declared.Refusal.TheVariants as refusal
 use Rattle.paper.specs.Rows.{Table, natural}
 use Rattle.paper.specs.Answers.{Makes}
@@ -14,21 +15,21 @@ use Rattle.paper.specs.Build.{within, built, strings, build_lengths, build_range
 
 module _ (p : ℤ) (ts ns : List ℕ) (room : ℕ) (old : List ℤ) where
   pub refused_lengths : build_lengths ts ns room ≡ true
-      → Makes (build p ts ns room) (making.Refused refusal.Length) old old
+      → Makes (build p ts ns room) (Err refusal.Length) old old
   unfolding build
   refused_lengths e = rw e (record { says = refl; holds = refl })
 
   module _ (a : build_lengths ts ns room ≡ false) where
-    pub refused_range : build_range p ns ≡ true → Makes (build p ts ns room) (making.Refused refusal.Range) old old
+    pub refused_range : build_range p ns ≡ true → Makes (build p ts ns room) (Err refusal.Range) old old
     unfolding build
     refused_range e = rw (a, e) (record { says = refl; holds = refl })
 
-    pub accepted : build_range p ns ≡ false → (q : ℕ) → q ≡ natural p → (r : Making) (new : List ℤ)
+    pub accepted : build_range p ns ≡ false → (q : ℕ) → q ≡ natural p → (r : Result Heading Refusal) (new : List ℤ)
         → Makes (within (built q (strings ns ts))) r old new → Makes (build p ts ns room) r old new
     unfolding build
     accepted e q d r new m = rw (a, e, ← d) m
 
 -- a table that is another's
-pub makes_as : (t u : Table) (r : Making) (old new : List ℤ) → t ≡ u → Makes (within u) r old new
+pub makes_as : (t u : Table) (r : Result Heading Refusal) (old new : List ℤ) → t ≡ u → Makes (within u) r old new
     → Makes (within t) r old new
 makes_as t u r old new e m = subst (λ (x : Table). Makes (within x) r old new) (sym e) m

@@ -5,36 +5,42 @@ ghost use Rattle.std.specs.Prelude.{length};
 ghost use Rattle.paper.specs.Answers.{Makes};
 ghost use Rattle.paper.specs.Build.{within, built, strings, build};
 ghost use Rattle.build_checks.specs.Sane.{Sane};
+ghost use Rattle.build.specs.Checking.{Checks};
 
-use build_strings::Table;
-use paper::{Making, Production, Refusal};
+use grow::Growing;
+use paper::{Heading, Production, Refusal, StringList};
 use rows::numbers;
 
-// The strings in an array of its own, and their rows at the front of the output.
-fn written(production: Production, tokens: &[u16], lengths: &[usize], out: &mut [i32]) -> Making
-    requires { Sane tokens.now lengths.now (length out.old) }
-    ensures { Makes (within (built production.0 (strings lengths.now tokens.now)))
+// The production of a list that passes the checks 1 and 2.
+fn checked(list: StringList, room: usize) -> Result<Production, Refusal>
+    ensures { Checks list.entry.production list.entry.tokens.now list.entry.lengths.now room result }
+{
+    if build_checks::lengths(list, room) {
+        return Err(Refusal::Length);
+    }
+    if build_checks::range(list) {
+        return Err(Refusal::Range);
+    }
+    let q = numbers::natural(list.production) as u16;
+    Ok(Production(q))
+}
+
+// The strings in rows of their own, and those rows at the front of the output.
+fn written(production: Production, list: StringList, out: &mut [i32]) -> Result<Heading, Refusal>
+    requires { Sane list.tokens.now list.lengths.now (length out.old) }
+    ensures { Makes (within (built production.0 (strings list.entry.lengths.now list.entry.tokens.now)))
         result out.old out.new }
 {
-    let mut buf = [0i32; 4608];
-    let made = build_strings::add_all(&mut buf, production, tokens, lengths);
-    match made {
-        Table::Full => Making::Refused(Refusal::Full),
-        Table::Rows { lo, rows, code, k } => grow::finish(&buf, lo, rows, code, k, out),
-    }
+    let mut rows = Growing::empty();
+    let head = build_strings::add_all(&mut rows, production, list)?;
+    Ok(rows.finish(head.prod0, head.k, out))
 }
 
 // Build: the checks 1 and 2, then the strings, then 14.
-pub fn build(production: i32, tokens: &[u16], lengths: &[usize], out: &mut [i32]) -> Making
-    ensures { Makes (build production tokens.now lengths.now (length out.old))
+pub fn build(list: StringList, out: &mut [i32]) -> Result<Heading, Refusal>
+    ensures { Makes (build list.entry.production list.entry.tokens.now list.entry.lengths.now (length out.old))
         result out.old out.new }
 {
-    if build_checks::lengths(tokens, lengths, out.len()) {
-        return Making::Refused(Refusal::Length);
-    }
-    if build_checks::range(production, lengths) {
-        return Making::Refused(Refusal::Range);
-    }
-    let q = numbers::natural(production) as u16;
-    written(Production(q), tokens, lengths, out)
+    let production = checked(list, out.len())?;
+    written(production, list, out)
 }

@@ -1,10 +1,10 @@
--- The tests of the checks 1 and 2, as the code makes them one after the other, and what they leave.
+-- What the checks 1 and 2 leave.
 -- Assumes nothing.
 use mathlib.Core.Path.{◌≡◌}
-use mathlib.Core.Bool.{true, false, not, ◌||◌}
+use mathlib.Core.Bool.{false, not, ◌||◌}
 use mathlib.Core.List.{List}
-use Prim.Native.Nat.{ℕ, ◌<◌, ◌≤◌}
-use borrow.Author.Tests.{lt-ltb, le-ltb, lt-leb, le-leb, ltb-false, leb-true, eqb-true, not-false}
+use Prim.Native.Nat.{ℕ, ◌≤◌}
+use borrow.Author.Tests.{ltb-false, leb-true, eqb-true, not-false}
 use lib.Dec.{eqb, ltb, leb}
 use lib.ListN.{length}
 use lib.IntN.{ℤ}
@@ -15,28 +15,7 @@ use Rattle.paper.specs.Build.{sum, build_lengths, build_range}
 use Rattle.build_checks.specs.Sane.{Sane}
 use Rattle.build_checks.proofs.Totals.{over}
 
-module _ (ts ns : List ℕ) (room : ℕ) where
-  pub room_out : room < 16384 → true ≡ build_lengths ts ns room
-  unfolding build_lengths little_room
-  room_out h = simp (lt-ltb _ _ h)
-
-  pub many_out : 16384 ≤ room → 1024 < length ns → true ≡ build_lengths ts ns room
-  unfolding build_lengths little_room
-  many_out a h = simp (le-ltb _ _ a, lt-ltb _ _ h)
-
-  pub sums_left : 16384 ≤ room → length ns ≤ 1024 → not (eqb (sum ns) (length ts)) ≡ build_lengths ts ns room
-  unfolding build_lengths little_room
-  sums_left a h = simp (le-ltb _ _ a, le-ltb _ _ h)
-
 module _ (p : ℤ) (ns : List ℕ) where
-  pub production_out : 65535 < natural p → true ≡ build_range p ns
-  unfolding build_range
-  production_out h = simp (lt-leb _ _ h)
-
-  pub lengths_left : natural p ≤ 65535 → any over ns ≡ build_range p ns
-  unfolding build_range
-  lengths_left h = simp (le-leb _ _ h)
-
   range_parts : build_range p ns ≡ false → (not (leb (natural p) 65535) ≡ false) × (any over ns ≡ false)
   unfolding build_range
   range_parts e = neither (not (leb (natural p) 65535)) (any over ns) e

@@ -1,16 +1,17 @@
--- The lengths from a place on: their sum, and whether one is over 16.
+-- The lengths from a place on and their sum; whether one is over 16.
 -- Assumes nothing.
-use mathlib.Core.Path.{◌≡◌, ap, sym, ◌∙◌}
-use mathlib.Core.Bool.{Bool, true, false}
-use mathlib.Core.List.{List, ◌∷◌}
+use mathlib.Core.Path.{◌≡◌, refl, ap, sym, ◌∙◌}
+use mathlib.Core.Bool.{Bool, false, ◌||◌}
+use mathlib.Core.List.{List, [], ◌∷◌}
 use Prim.Native.Nat.{ℕ, ◌+◌, ◌<◌, ◌≤◌}
 use native.Mathlib.Omega.{arith}
 use native.Mathlib.Numerals.{add-one}
-use borrow.Author.Tests.{lt-ltb, le-ltb, eq-eqb, ne_eqb}
+use borrow.Author.Tests.{eq-eqb, ne_eqb}
 use lib.Dec.{eqb, ltb}
 use lib.ListN.{length, get_or, drop, drop_of_length-le}
 use lib.Seq.{drop-cons}
 use Rattle.laws.proofs.Tests.{Test, same, apart, test}
+use Rattle.std.specs.List.{list_any}
 use Rattle.paper.specs.Checks.{any}
 use Rattle.paper.specs.Build.{sum}
 
@@ -39,15 +40,8 @@ module _ (ns : List ℕ) (count left i : ℕ) (inv : sum ns + left ≡ count + s
 abbrev pub over : ℕ → Bool
 over n = ltb 16 n
 
-module _ (ns : List ℕ) (i : ℕ) (h : i < length ns) where
-  pub long_here : 16 < get_or ns i 0 → any over (drop i ns) ≡ true
-  unfolding any
-  long_here l = ap (any over) (from ns i h) ∙ rw (lt-ltb 16 (get_or ns i 0) l)
-
-  pub long_next : get_or ns i 0 ≤ 16 → any over (drop i ns) ≡ any over (drop (i + 1) ns)
-  unfolding any
-  long_next l = ap (any over) (from ns i h) ∙ rw (le-ltb 16 (get_or ns i 0) l)
-
-pub long_end : (ns : List ℕ) (i : ℕ) → length ns ≤ i → any over (drop i ns) ≡ false
+-- the library's test of a list is document 01's
+pub any_as : (f : ℕ → Bool) (ns : List ℕ) → list_any f ns ≡ any f ns
 unfolding any
-long_end ns i h = ap (any over) (drop_of_length-le ns h)
+any_as f [] = refl
+any_as f (n ∷ ns) = ap (λ (b : Bool). f n || b) (any_as f ns)

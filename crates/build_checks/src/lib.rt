@@ -1,10 +1,11 @@
 // The checks 1 and 2 of build: each true when it refuses.
 #![tactic(auto)]
 
-ghost use Rattle.std.specs.Prelude.{◌≡◌, eqb, ltb};
+ghost use Rattle.std.specs.Prelude.{◌≡◌, eqb, ltb, length};
 ghost use Rattle.paper.specs.Checks.{any};
 ghost use Rattle.paper.specs.Build.{sum, build_lengths, build_range};
 
+use paper::StringList;
 use rows::numbers;
 
 // The numbers sum to a count; no sum is made that could pass it.
@@ -12,14 +13,11 @@ pub fn sums(lengths: &[usize], count: usize) -> bool
     ensures { result ≡ eqb (sum lengths.now) count }
 {
     let mut left = count;
-    let mut i = 0;
-    while i < lengths.len() {
-        let n = lengths[i];
-        if left < n {
+    for n in lengths {
+        if left < *n {
             return false;
         }
-        left -= n;
-        i += 1;
+        left -= *n;
     }
     left == 0
 }
@@ -28,35 +26,21 @@ pub fn sums(lengths: &[usize], count: usize) -> bool
 fn long(lengths: &[usize]) -> bool
     ensures { result ≡ any (λ n. ltb 16 n) lengths.now }
 {
-    let mut i = 0;
-    while i < lengths.len() {
-        if 16 < lengths[i] {
-            return true;
-        }
-        i += 1;
-    }
-    false
+    lengths.iter().any(|n| 16 < *n)
 }
 
 // 1 LENGTH.
-pub fn lengths(tokens: &[u16], lengths: &[usize], room: usize) -> bool
-    ensures { result ≡ build_lengths tokens.now lengths.now room }
+#[tactic(auto, unfolding(paper::specs::Build::build_lengths, paper::specs::Checks::little_room))]
+pub fn lengths(list: StringList, room: usize) -> bool
+    ensures { result ≡ build_lengths list.entry.tokens.now list.entry.lengths.now room }
 {
-    if room < 16384 {
-        return true;
-    }
-    if 1024 < lengths.len() {
-        return true;
-    }
-    !sums(lengths, tokens.len())
+    room < 16384 || 1024 < list.lengths.len() || !sums(list.lengths, list.tokens.len())
 }
 
 // 2 RANGE.
-pub fn range(production: i32, lengths: &[usize]) -> bool
-    ensures { result ≡ build_range production lengths.now }
+#[tactic(auto, unfolding(paper::specs::Build::build_range))]
+pub fn range(list: StringList) -> bool
+    ensures { result ≡ build_range list.entry.production list.entry.lengths.now }
 {
-    if 65535 < numbers::natural(production) {
-        return true;
-    }
-    long(lengths)
+    65535 < numbers::natural(list.production) || long(list.lengths)
 }

@@ -1,134 +1,86 @@
-// A string walked into the rows of an array, states added in order of need.
+// A string walked into rows that grow, states added in order of need.
 #![tactic(auto)]
 
 ghost use Rattle.std.specs.Prelude.{◌≤◌};
-ghost use Rattle.grow_laws.specs.Held.{view, held, Laid, Missed};
+ghost use Rattle.grow_laws.specs.Held.{Missed};
+ghost use Rattle.grow.specs.Seen.{seen, rows_of};
 ghost use Rattle.trees.proofs.Tree.{Tree};
 ghost use Rattle.build_string.specs.Steps.{Leads, Enters, Walks, Marked, Adds};
 
-use paper::{Production, State, Terminal};
-use search::Found;
+use grow::Growing;
+use paper::{Production, Refusal, State, Terminal};
 
-// Where a walk stands: where the rows begin and how many they are, its state, and the row into it by its number plus
-// one, 0 for none.
+// Where a walk stands: its state, and the row into it; none leads into state 0.
 #[derive(Clone, Copy)]
-pub enum Step {
-    On {
-        lo: usize,
-        rows: usize,
-        state: State,
-        at: usize,
-    },
-    Full,
+pub struct Step {
+    state: State,
+    at: Option<usize>,
 }
 
 // From a state by a token that has no row: into a new state, unless there are 1,023 rows.
-fn grown(buf: &mut [i32], lo: usize, n: usize, i: usize, state: State, token: Terminal) -> Step
-    requires { Missed (view buf.old lo) n i state.0 token.0 }
-    ensures { Enters (view buf.old lo) buf.new n state.0 token.0 result }
+fn grown(rows: &mut Growing, i: usize, state: State, token: Terminal) -> Result<Step, Refusal>
+    requires { Missed (seen rows.old) rows.old.n i state.0 token.0 }
+    ensures { Enters rows.old rows.new state.0 token.0 result }
 {
+    let n = rows.count();
     if 1023 <= n {
-        return Step::Full;
+        return Err(Refusal::Full);
     }
-    let low = grow::add(buf, lo, n, i, state, token, 0);
-    Step::On {
-        lo: low,
-        rows: n + 1,
+    rows.add(i, state, token, None);
+    Ok(Step {
         state: State((n + 1) as u16),
-        at: i + 1,
-    }
+        at: Some(i),
+    })
 }
 
 // From a state by a token: along its row, or into a new state.
-fn enter(buf: &mut [i32], lo: usize, n: usize, state: State, token: Terminal) -> Step
-    requires { Laid (view buf.old lo) n × (state.0 ≤ 1023) }
-    ensures { Enters (view buf.old lo) buf.new n state.0 token.0 result }
+fn enter(rows: &mut Growing, state: State, token: Terminal) -> Result<Step, Refusal>
+    requires { state.0 ≤ 1023 }
+    ensures { Enters rows.old rows.new state.0 token.0 result }
 {
-    let found = grow::find(buf, lo, n, state, token);
-    match found {
-        Found::At(i) => Step::On {
-            lo,
-            rows: n,
-            state: grow::to_at(buf, lo, n, i),
-            at: i + 1,
-        },
-        Found::Missing(i) => grown(buf, lo, n, i, state, token),
+    match rows.find(state, token) {
+        Ok(i) => Ok(Step {
+            state: rows.to(i),
+            at: Some(i),
+        }),
+        Err(i) => grown(rows, i, state, token),
     }
 }
 
 // A string walked from state 0.
-fn walk(buf: &mut [i32], lo: usize, n: usize, string: &[u16]) -> Step
-    requires { Laid (view buf.old lo) n }
-    ensures { Walks (view buf.old lo) buf.new n string.now result }
+fn walk(rows: &mut Growing, string: &[u16]) -> Result<Step, Refusal>
+    ensures { Walks rows.old rows.new string.now result }
 {
-    let mut l = lo;
-    let mut m = n;
-    let mut s = State(0);
-    let mut row = 0;
-    let mut i = 0;
-    while i < string.len() {
-        let step = enter(buf, l, m, s, Terminal(string[i]));
-        let Step::On {
-            lo,
-            rows,
-            state,
-            at,
-        } = step
-        else {
-            return Step::Full;
-        };
-        l = lo;
-        m = rows;
-        s = state;
-        row = at;
-        i += 1;
+    let mut step = Step {
+        state: State(0),
+        at: None,
+    };
+    for token in string {
+        step = enter(rows, step.state, Terminal(*token))?;
     }
-    Step::On {
-        lo: l,
-        rows: m,
-        state: s,
-        at: row,
-    }
+    Ok(step)
 }
 
 // The state that a walk stands in gets the production; state 0 has no row.
-fn mark(buf: &mut [i32], lo: usize, n: usize, state: State, at: usize, production: Production)
-    requires { Laid (view buf.old lo) n × Tree (held (view buf.old lo) n)
-        × Leads (view buf.old lo) n state.0 at }
-    ensures { Marked (view buf.old lo) (view buf.new lo) n state.0 production.0 }
+fn mark(rows: &mut Growing, step: Step, production: Production)
+    requires { Tree (rows_of rows.old) × Leads (seen rows.old) rows.old.n step.state.0 step.at }
+    ensures { Marked rows.old rows.new step.state.0 production.0 }
 {
-    if at == 0 {
-        return;
+    if let Some(i) = step.at {
+        rows.give(i, Some(production));
     }
-    grow::give(buf, lo, n, at - 1, production.0 as usize + 1);
 }
 
-// A string walked from state 0, whose last state gets the production.
+// A string walked from state 0, whose last state gets the production: that state.
 pub fn add_string(
-    buf: &mut [i32],
-    lo: usize,
-    n: usize,
+    rows: &mut Growing,
     string: &[u16],
     production: Production,
-) -> Step
-    requires { Laid (view buf.old lo) n × Tree (held (view buf.old lo) n) }
-    ensures { Adds (view buf.old lo) buf.new n production.0 string.now result }
+) -> Result<State, Refusal>
+    requires { Tree (rows_of rows.old) }
+    ensures { Adds rows.old rows.new production.0 string.now result }
 {
-    let step = walk(buf, lo, n, string);
-    let Step::On {
-        lo,
-        rows,
-        state,
-        at,
-    } = step
-    else {
-        return Step::Full;
-    };
-    mark(buf, lo, rows, state, at, production);
-    Step::On {
-        lo,
-        rows,
-        state,
-        at,
-    }
+    let step = walk(rows, string)?;
+    mark(rows, step, production);
+    Ok(step.state)
 }

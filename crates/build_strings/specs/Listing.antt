@@ -1,29 +1,14 @@
--- What comes of all strings: the code of prod0, string after string, and the table.
-use Rattle.std.specs.Prelude.{◌≡◌, cond, List, ℕ, ◌≤◌, ◌<◌, eqb, length, ℤ}
-use Rattle.std.proofs.Math.Option.{none, some}
+-- What comes of all strings: the table.
+use Rattle.std.specs.Prelude.{◌≡◌, ◌<◌, length, Result, Ok, Err}
+use Rattle.paper.specs.declared.Refusal.{Refusal}
+use Rattle.paper.specs.declared.Refusal.TheVariants.{Full}
 use Rattle.paper.specs.Rows.{Table}
-use Rattle.rows.specs.Places.{uncoded}
-use Rattle.grow_laws.specs.Held.{view, held, Laid}
-use Rattle.build_strings.specs.declared.Table as declared
-use Rattle.build_strings.specs.declared.Table.TheVariants as table
+use Rattle.rows.specs.Places.{given}
+use Rattle.grow.specs.declared.Growing.{Growing}
+use Rattle.grow.specs.Seen.{rows_of}
+use Rattle.build_strings.specs.declared.Head.{Head}
 
--- The code of prod0 before any string.
-pub record Opens (lengths : List ℕ) (q r : ℕ) : Type 0 where
-  pub small : r ≤ 65536
-  pub is : uncoded r ≡ cond (eqb (length lengths) 0) (some q) none
-
--- After a string that ends in the state s.
-pub record Recodes (code s q r : ℕ) : Type 0 where
-  pub small : r ≤ 65536
-  pub is : uncoded r ≡ cond (eqb s 0) (some q) (uncoded code)
-
--- A table whose rows the array holds; or it would have a 1,024th row.
-pub record Holds (new : List ℤ) (n code k : ℕ) (t : Table) : Type 0 where
-  pub laid : Laid new n
-  pub small : code ≤ 65536
-  pub is : t ≡ record { prod0 = uncoded code; k = k; rows = held new n }
-
--- The answer of all strings.
-abbrev pub Grows : List ℤ → Table → declared.Table → Type 0
-Grows new t (table.Rows lo n code k) = Holds (view new lo) n code k t
-Grows new t table.Full = 1023 < length t.rows
+-- The table whose rows those are, or it would have a 1,024th row.
+abbrev pub Grows : Growing → Table → Result Head Refusal → Type 0
+Grows new t (Ok h) = t ≡ record { prod0 = given h.prod0; k = h.k; rows = rows_of new }
+Grows new t (Err e) = (e ≡ Full) × (1023 < length t.rows)

@@ -1,82 +1,65 @@
 // All strings of a list, one after the other, and the table that they make.
 #![tactic(auto)]
 
-ghost use Rattle.std.specs.Prelude.{◌≡◌, ◌≤◌, length};
+ghost use Rattle.std.specs.Prelude.{◌≡◌, cond, eqb, length};
+ghost use Rattle.std.proofs.Math.Option.{none, some};
 ghost use Rattle.paper.specs.Build.{built, strings, sum};
-ghost use Rattle.grow_laws.specs.Held.{view, Laid};
-ghost use Rattle.build_strings.specs.Listing.{Opens, Recodes, Grows};
+ghost use Rattle.rows.specs.Places.{given};
+ghost use Rattle.build_strings.specs.Listing.{Grows};
 
-use build_string::Step;
-use paper::{Production, State};
+use grow::Growing;
+use paper::{Production, Refusal, State, StringList};
 
-// A table: where the rows begin and how many they are, the code of its prod0, and k.
-#[derive(Clone, Copy)]
-pub enum Table {
-    Rows {
-        lo: usize,
-        rows: usize,
-        code: usize,
-        k: usize,
-    },
-    Full,
+// What a table has beside its rows: prod0, and k.
+#[derive(Clone, Copy, Debug, PartialEq, Eq)]
+pub struct Head {
+    pub prod0: Option<Production>,
+    pub k: usize,
 }
 
-// The code of prod0 before any string: an empty list makes state 0 accept.
-fn first_code(lengths: &[usize], production: Production) -> usize
-    ensures { Opens lengths.now production.0 result }
+// prod0 before any string: an empty list makes state 0 accept.
+fn first_prod0(lengths: &[usize], production: Production) -> Option<Production>
+    ensures { given result ≡ cond (eqb (length lengths.now) 0) (some production.0) none }
 {
-    if lengths.len() == 0 {
-        return production.0 as usize + 1;
+    if lengths.is_empty() {
+        return Some(production);
     }
-    0
+    None
 }
 
-// The code of prod0 after a string that ends in a state.
-fn next_code(code: usize, state: State, production: Production) -> usize
-    requires { code ≤ 65536 }
-    ensures { Recodes code state.0 production.0 result }
+// prod0 after a string that ends in a state.
+fn next_prod0(prod0: Option<Production>, state: State, production: Production) -> Option<Production>
+    ensures { given result ≡ cond (eqb state.0 0) (some production.0) (given prod0) }
 {
     if state.0 == 0 {
-        return production.0 as usize + 1;
+        return Some(production);
     }
-    code
+    prod0
 }
 
-// All strings: each is read from the rest of the token slice. The rows begin at row 128 of the array.
-pub fn add_all(buf: &mut [i32], production: Production, tokens: &[u16], lengths: &[usize]) -> Table
-    requires { Laid (view buf.old 128) 0 × (sum lengths.now ≡ length tokens.now) }
-    ensures { Grows buf.new
-        (built production.0 (strings lengths.now tokens.now)) result }
+// All strings into no rows yet: each is read from the rest of the token slice.
+pub fn add_all(
+    rows: &mut Growing,
+    production: Production,
+    list: StringList,
+) -> Result<Head, Refusal>
+    requires { (rows.old.n ≡ 0) × (sum list.lengths.now ≡ length list.tokens.now) }
+    ensures { Grows rows.new
+        (built production.0 (strings list.entry.lengths.now list.entry.tokens.now)) result }
 {
-    let mut rest = tokens;
-    let mut l = 128;
-    let mut n = 0;
-    let mut code = first_code(lengths, production);
-    let mut k = 0;
-    let mut i = 0;
-    while i < lengths.len() {
-        let len = lengths[i];
-        let step = build_string::add_string(buf, l, n, &rest[..len], production);
-        let Step::On {
-            lo,
-            rows,
-            state,
-            at: _,
-        } = step
-        else {
-            return Table::Full;
+    let mut rest = list.tokens;
+    let mut head = Head {
+        prod0: first_prod0(list.lengths, production),
+        k: 0,
+    };
+    for len in list.lengths {
+        let (string, after) = rest.split_at(*len);
+        let state = build_string::add_string(rows, string, production)?;
+        head = Head {
+            prod0: next_prod0(head.prod0, state, production),
+            k: head.k.max(*len),
         };
-        l = lo;
-        n = rows;
-        code = next_code(code, state, production);
-        k = grow::larger(k, len);
-        rest = &rest[len..];
-        i += 1;
+        rest = after;
     }
-    Table::Rows {
-        lo: l,
-        rows: n,
-        code,
-        k,
-    }
+    Ok(head)
 }

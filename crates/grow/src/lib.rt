@@ -1,109 +1,132 @@
-// Rows that grow: n rows stand in a lent array from row lo on, and a new row moves the fewer of them, up or down.
+// A table's rows as they grow: they stand in an array from a row on, and a new row moves the fewer of them, up or down.
 #![tactic(auto)]
 
-ghost use Rattle.std.specs.Prelude.{◌≡◌, ◌+◌, ◌*◌, ◌<◌, ◌≤◌, max, length};
+ghost use Rattle.std.specs.Prelude.{◌≡◌, ◌+◌, ◌*◌, ◌<◌, ◌≤◌, ◌/◌, length, take, Ok};
 ghost use Rattle.paper.specs.Answers.{Makes};
 ghost use Rattle.paper.specs.Build.{within};
-ghost use Rattle.grow_laws.specs.Moves.{front};
-ghost use Rattle.grow_laws.specs.Held.{view, row_held, Laid, table_of, Seeks, Adding, Added, Giving, Given, Coded};
+ghost use Rattle.paper.specs.Rows.{rows_in};
+ghost use Rattle.rows.specs.Places.{given};
+ghost use Rattle.trees.proofs.Tree.{Tree};
+ghost use Rattle.grow_laws.specs.Held.{view, row_held, Laid, table_of, Seeks, Missed, Added, Given};
 
-use paper::{Making, State, Terminal};
-use rows::numbers;
-use search::Found;
+use paper::{Heading, Production, State, Terminal};
+use rows::{Rows, numbers};
 
-// The row of a state and a terminal among n rows, or where it would go.
-pub fn find(buf: &[i32], lo: usize, n: usize, s: State, t: Terminal) -> Found
-    requires { Laid (view buf.now lo) n × (s.0 ≤ 1023) }
-    ensures { Seeks (view buf.now lo) n s.0 t.0 result }
-{
-    let first = lo * 4;
-    search::find(&buf[first..first + n * 4], s, t)
-}
-
-// The state that row i of n leads to.
-pub fn to_at(buf: &[i32], lo: usize, n: usize, i: usize) -> State
-    requires { Laid (view buf.now lo) n × (i < n) }
-    ensures { (result.0 ≡ (row_held (view buf.now lo) n i).to) × (result.0 ≤ 1023) }
-{
-    State(numbers::to_at(buf, lo + i) as u16)
-}
-
-// The code of the production of row i of n.
-pub fn code_at(buf: &[i32], lo: usize, n: usize, i: usize) -> usize
-    requires { Laid (view buf.now lo) n × (i < n) }
-    ensures { Coded (row_held (view buf.now lo) n i).production result }
-{
-    numbers::code_at(buf, lo + i)
-}
-
-// The row from s by t to the next state, with the production of a code, is put in at its place i among n rows.
-// The answer is where the rows now begin.
-pub fn add(
-    buf: &mut [i32],
+// The n rows begin at row lo of the array.
+#[derive(Drop)]
+pub struct Growing {
+    buf: [i32; 4608],
     lo: usize,
     n: usize,
-    i: usize,
-    s: State,
-    t: Terminal,
-    code: usize,
-) -> usize
-    requires { Adding (view buf.old lo) n i s.0 t.0 code }
-    ensures { Added (view buf.old lo) (view buf.new result) n i s.0 t.0 code }
-{
-    let from = numbers::number_of(s.0 as usize);
-    let terminal = numbers::number_of(t.0 as usize);
-    let to = numbers::number_of(n + 1);
-    let production = numbers::production_of(code);
-    grow_ends::insert(buf, lo, n, i, from, terminal, to, production)
+    ghost laid: { Laid (view buf lo) n },
 }
 
-// The state that row i of n leads to gets the production of a code.
-pub fn give(buf: &mut [i32], lo: usize, n: usize, i: usize, code: usize)
-    requires { Giving (view buf.old lo) n i code }
-    ensures { Given (view buf.old lo) (view buf.new lo) n i code }
-{
-    buf[(lo + i) * 4 + 3] = numbers::production_of(code);
-}
+impl Growing {
+    ghost use Rattle.grow.specs.Seen.{seen, rows_of};
 
-// The numbers of src at the front of out.
-fn copy_front(src: &[i32], out: &mut [i32])
-    requires { length src.now ≤ length out.old }
-    ensures { out.new ≡ front src.now out.old }
-{
-    let mut i = 0;
-    while i < src.len() {
-        out[i] = src[i];
-        i += 1;
+    // No rows yet; the first will stand at row 128.
+    pub fn empty() -> Growing
+        ensures { (result.lo ≡ 128) × (result.n ≡ 0) }
+    {
+        Growing {
+            buf: [0; 4608],
+            lo: 128,
+            n: 0,
+        }
     }
-}
 
-// The numbers of src where rows begin in an array.
-pub fn copy_rows(src: &[i32], buf: &mut [i32], lo: usize)
-    requires { lo * 4 + length src.now ≤ length buf.old }
-    ensures { view buf.new lo ≡ front src.now (view buf.old lo) }
-{
-    copy_front(src, &mut buf[lo * 4..]);
-}
-
-// A table whose rows stand in the array: its rows at the front of the output, and the answer.
-pub fn finish(buf: &[i32], lo: usize, n: usize, code: usize, k: usize, out: &mut [i32]) -> Making
-    requires { Laid (view buf.now lo) n × (code ≤ 65536) × (16384 ≤ length out.old) }
-    ensures { Makes (within (table_of code k (view buf.now lo) n))
-        result out.old out.new }
-{
-    let first = lo * 4;
-    copy_front(&buf[first..first + n * 4], out);
-    Making::Made {
-        prod0: numbers::production_of(code),
-        k,
-        rows: n,
-        states: n + 1,
+    // The rows of a table that passed the checks, from row 128 on.
+    pub fn of(rows: Rows) -> Growing
+        requires { (length rows.numbers.now ≤ 4092)
+            × (length rows.numbers.now / 4 * 4 ≡ length rows.numbers.now) }
+        ensures { rows_of result ≡ rows_in rows.entry.numbers.now }
+    {
+        let mut growing = Growing::empty();
+        growing.buf[512..512 + rows.numbers.len()].copy_from_slice(rows.numbers);
+        growing.n = rows.count();
+        growing
     }
-}
 
-// The larger.
-pub fn larger(a: usize, b: usize) -> usize
-    ensures { result ≡ max a b }
-{
-    if a < b { b } else { a }
+    // How many rows there are.
+    pub fn count(&self) -> usize
+        ensures { result ≡ self.now.n }
+    {
+        self.n
+    }
+
+    // The rows themselves.
+    fn rows(&self) -> Rows
+        ensures { result.numbers.now ≡ take (self.now.n * 4) (seen self.now) }
+    {
+        let first = self.lo * 4;
+        Rows {
+            numbers: &self.buf[first..first + self.n * 4],
+        }
+    }
+
+    // The row of a state and a terminal, or where it would go.
+    pub fn find(&self, state: State, terminal: Terminal) -> Result<usize, usize>
+        requires { state.0 ≤ 1023 }
+        ensures { Seeks (seen self.now) self.now.n state.0 terminal.0 result }
+    {
+        search::find(self.rows(), state, terminal)
+    }
+
+    // The state that row i leads to.
+    pub fn to(&self, i: usize) -> State
+        requires { i < self.now.n }
+        ensures { (result.0 ≡ (row_held (seen self.now) self.now.n i).to)
+            × (result.0 ≤ 1023) }
+    {
+        State(self.rows().to(i) as u16)
+    }
+
+    // The production of that state.
+    pub fn production(&self, i: usize) -> Option<Production>
+        requires { i < self.now.n }
+        ensures { given result ≡ (row_held (seen self.now) self.now.n i).production }
+    {
+        self.rows().production(i)
+    }
+
+    // The row from a state by a terminal to the next state is put in at its place i.
+    pub fn add(&mut self, i: usize, from: State, terminal: Terminal, production: Option<Production>)
+        requires { Missed (seen self.old) self.old.n i from.0 terminal.0 × (self.old.n < 1023) }
+        ensures { Added (seen self.old) (seen self.new) self.old.n i from.0 terminal.0 (given production)
+            × (self.new.n ≡ self.old.n + 1) }
+    {
+        let to = numbers::number_of(self.n + 1);
+        let row = [
+            numbers::number_of(from.0 as usize),
+            numbers::number_of(terminal.0 as usize),
+            to,
+            numbers::signed(production),
+        ];
+        self.lo = grow_ends::insert(&mut self.buf, self.lo, self.n, i, row);
+        self.n += 1;
+    }
+
+    // The state that row i of a tree leads to gets a production.
+    #[tactic(auto, using(grow_laws::proofs::Painted::gives), unfolding(paper::specs::Checks::production_fits))]
+    pub fn give(&mut self, i: usize, production: Option<Production>)
+        requires { Tree (rows_of self.old) × (i < self.old.n) }
+        ensures { Given (seen self.old) (seen self.new) self.old.n i (given production) × (self.new.n ≡ self.old.n) }
+    {
+        self.buf[(self.lo + i) * 4 + 3] = numbers::signed(production);
+    }
+
+    // The rows at the front of the output, and the answer.
+    pub fn finish(&self, prod0: Option<Production>, k: usize, out: &mut [i32]) -> Heading
+        requires { 16384 ≤ length out.old }
+        ensures { Makes (within (table_of (given prod0) k (seen self.now) self.now.n))
+            (Ok result) out.old out.new }
+    {
+        out[..self.n * 4].copy_from_slice(self.rows().numbers);
+        Heading {
+            prod0: numbers::signed(prod0),
+            k,
+            rows: self.n,
+            states: self.n + 1,
+        }
+    }
 }

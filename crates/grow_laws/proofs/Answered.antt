@@ -1,6 +1,7 @@
 -- The answer for a table whose rows stand in the array, and for one with a row too many.
 -- Assumes nothing.
 use mathlib.Core.Path.{◌≡◌, refl, ap, sym, ◌∙◌}
+use mathlib.Core.Option.{Option}
 use mathlib.Core.List.{List, [], ◌++◌}
 use Prim.Native.Nat.{ℕ, suc, ◌+◌, ◌*◌, ◌<◌, ◌≤◌}
 use native.Mathlib.Omega.{arith}
@@ -8,16 +9,15 @@ use native.Mathlib.Numerals.{add-one}
 use borrow.Author.Tests.{lt-ltb, le-ltb}
 use lib.ListN.{length, take, drop}
 use lib.IntN.{ℤ}
-use Rattle.paper.specs.declared.Making.TheVariants as making
+use Rattle.std.specs.Prelude.{Ok, Err}
 use Rattle.paper.specs.declared.Refusal.TheVariants as refusal
 use Rattle.paper.specs.Rows.{Table, signed}
 use Rattle.paper.specs.Answers.{accept, refuse, Makes}
 use Rattle.paper.specs.Checks.{rising, every}
 use Rattle.paper.specs.Build.{within}
-use Rattle.rows.specs.Places.{uncoded}
 use Rattle.grow_laws.specs.Moves.{front}
 use Rattle.grow_laws.specs.Held.{held, Laid, table_of}
-use Rattle.grow_laws.proofs.Written.{held_length}
+use Rattle.grow_laws.proofs.Written.{held_length, held_numbers}
 use Rattle.grow_laws.proofs.Placed.{room, written}
 
 -- no rows yet
@@ -39,16 +39,24 @@ within_fine t n e h =
     rw (le-ltb 1024 (suc (length t.rows)) l, e)
 
 pub answers_full : (t : Table) (old : List ℤ) → 1023 < length t.rows
-    → Makes (within t) (making.Refused refusal.Full) old old
+    → Makes (within t) (Err refusal.Full) old old
 answers_full t old h = rw (within_full t h) (record { says = refl; holds = refl })
 
-module _ (buf : List ℤ) (n code k : ℕ) (l : Laid buf n) where
-  pub answers : (p : ℤ) (old new : List ℤ) → p ≡ signed (uncoded code) → new ≡ front (take (n * 4) buf) old
-      → Makes (within (table_of code k buf n)) (making.Made p k n (n + 1)) old new
+module _ (buf : List ℤ) (n k : ℕ) (p : Option ℕ) (l : Laid buf n) where
+  pub answers : (z : ℤ) (old new : List ℤ) → z ≡ signed p → new ≡ front (take (n * 4) buf) old
+      → Makes (within (table_of p k buf n)) (Ok (record { prod0 = z; k = k; rows = n; states = n + 1 })) old new
   unfolding front
-  answers p old new e d =
+  answers z old new e d =
       let m : length (held buf n) ≡ n = held_length buf n (room buf n l) in
-      rw (within_fine (table_of code k buf n) n m l.few) (record {
+      rw (within_fine (table_of p k buf n) n m l.few) (record {
         says = rw (e, add-one, m);
         holds = d ∙ ap (λ (ns : List ℤ). ns ++ drop (length ns) old) (sym (written buf n l));
       })
+
+  -- the rows copied to the front of the output
+  pub answers_at : (z : ℤ) (old xs : List ℤ) → z ≡ signed p → xs ≡ take (n * 4) buf
+      → Makes (within (table_of p k buf n)) (Ok (record { prod0 = z; k = k; rows = n; states = n + 1 })) old (xs ++ drop (n * 4) old)
+  unfolding front
+  answers_at z old xs e d =
+      answers z old (xs ++ drop (n * 4) old) e
+      (rw (d, held_numbers buf n (room buf n l)))

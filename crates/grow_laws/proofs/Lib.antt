@@ -7,3 +7,4 @@ pub mod Viewed
 pub mod Painted
 pub mod Fronts
 pub mod Answered
+pub mod Begun

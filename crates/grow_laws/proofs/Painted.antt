@@ -9,22 +9,28 @@ use Prim.Native.Nat.{ℕ, zero, suc, ◌+◌, ◌*◌, ◌<◌}
 use native.Mathlib.Omega.{arith}
 use borrow.Author.Tests.{eq-eqb, ne_eqb, le-leb}
 use lib.Dec.{eqb}
-use lib.ListN.{length, get_or, take, drop, set}
+use lib.ListN.{length, get_or, take, drop, set, length-set}
 use lib.Seq.{split_at, length-take-le, take-set-lt}
 use lib.IntN.{ℤ}
 use Rattle.laws.proofs.Every.{every_true, every_in}
 use Rattle.laws.proofs.RowNumbers.{rows_numbers}
 use Rattle.paper.specs.Rows.{Row, signed, rows_in, numbers}
 use Rattle.paper.specs.Checks.{row_fits, production_fits}
-use Rattle.rows.specs.Places.{uncoded}
 use Rattle.rows.proofs.Fits.{Fit, fit, code_fits}
 use Rattle.trees.proofs.Find.{In}
 use Rattle.trees.proofs.Rising.{before_last, after_last, not_before_itself, rising_true, true_rising}
 use Rattle.trees.proofs.Paint.{paint, rising_paint}
 use Rattle.trees.proofs.Tree.{Tree, same_to, up}
-use Rattle.grow_laws.specs.Held.{held, row_held, Giving, Given}
+use Rattle.grow_laws.specs.Held.{view, held, row_held, Laid, Given}
 use Rattle.grow_laws.proofs.Written.{no_row, held_length, held_at}
-use Rattle.grow_laws.proofs.Placed.{room, written, laid_by, uncoded_fits, fitting}
+use Rattle.grow_laws.proofs.Viewed.{view_set}
+use Rattle.grow_laws.proofs.Placed.{room, written, laid_by, fitting}
+
+-- a production for the state that row i of a tree leads to.
+pub record Giving (buf : List ℤ) (n i : ℕ) : Type 0 where
+  pub laid : Laid buf n
+  pub tree : Tree (held buf n)
+  pub there : i < n
 
 -- rows none of which leads into s stay as they are
 pub paint_none : (s : ℕ) (q : Option ℕ) (rs : List Row) → ((x : Row) → In x rs → x.to ≡ s → ⊥) → map (paint s q) rs
@@ -83,7 +89,7 @@ set_one (d ∷ D) r E q (suc i) e =
     let k : suc i * 4 + 3 ≡ suc (suc (suc (suc (i * 4 + 3)))) = omega arith in
     rw (k, set_one D r E q i (omega arith))
 
-module _ (buf : List ℤ) (n i c : ℕ) (g : Giving buf n i c) where
+module _ (buf : List ℤ) (n i : ℕ) (p : Option ℕ) (f : production_fits p ≡ true) (g : Giving buf n i) where
   abbrev rs : List Row
   rs = held buf n
 
@@ -96,39 +102,49 @@ module _ (buf : List ℤ) (n i c : ℕ) (g : Giving buf n i c) where
   cut : rs ≡ take i rs ++ (r ∷ drop (suc i) rs)
   cut = split_at rs i no_row (omega (arith, rows_long, g.there))
 
-  pub painted_is : map (paint r.to (uncoded c)) rs ≡ take i rs ++ (with_production r (uncoded c) ∷ drop (suc i) rs)
+  pub painted_is : map (paint r.to p) rs ≡ take i rs ++ (with_production r p ∷ drop (suc i) rs)
   painted_is =
       let tr : Tree (take i rs ++ (r ∷ drop (suc i) rs)) = subst Tree cut g.tree in
-      ap (map (paint r.to (uncoded c))) cut ∙ paint_one (take i rs) r (drop (suc i) rs) tr (uncoded c)
+      ap (map (paint r.to p)) cut ∙ paint_one (take i rs) r (drop (suc i) rs) tr p
 
-  fits_painted : (x : Row) → In x (map (paint r.to (uncoded c)) rs) → row_fits x ≡ true
+  fits_painted : (x : Row) → In x (map (paint r.to p) rs) → row_fits x ≡ true
   unfolding paint
   fits_painted x j =
-      let (y, k, e) = Memᴰ.of_map (paint r.to (uncoded c)) rs j in
-      let h : row_fits y ≡ true = every_in row_fits rs g.laid.passed.fits y k in
-      let f : Fit y = fit y h in
-      ap row_fits (sym e) ∙ fitting (paint r.to (uncoded c) y) f.from f.terminal f.to
+      let (y, m, e) = Memᴰ.of_map (paint r.to p) rs j in
+      let h : row_fits y ≡ true = every_in row_fits rs g.laid.passed.fits y m in
+      let k : Fit y = fit y h in
+      ap row_fits (sym e) ∙ fitting (paint r.to p y) k.from k.terminal k.to
       (go (eqb y.to r.to) y h)
     where
-      go : (b : Bool) (y : Row) → row_fits y ≡ true → production_fits (cond b (uncoded c) y.production) ≡ true
-      go true y h = uncoded_fits c g.production
+      go : (b : Bool) (y : Row) → row_fits y ≡ true → production_fits (cond b p y.production) ≡ true
+      go true y h = f
       go false y h = sym (code_fits y.production) ∙ le-leb _ _ (fit y h).production
 
-  pub given : (new : List ℤ) → new ≡ set buf (i * 4 + 3) (signed (uncoded c)) → length new ≡ length buf
-      → Given buf new n i c
+  pub given : (new : List ℤ) → new ≡ set buf (i * 4 + 3) (signed p) → length new ≡ length buf
+      → Given buf new n i p
   given new e same =
       let j : i * 4 + 3 < n * 4 = omega (arith, g.there) in
       let d : i ≡ length (take i rs) = sym (length-take-le i rs (omega (arith, rows_long, g.there))) in
       let w : numbers rs ≡ take (n * 4) buf = written buf n g.laid in
-      let now : take (n * 4) new ≡ numbers (map (paint r.to (uncoded c)) rs) =
-      ap (take (n * 4)) e ∙ take-set-lt (n * 4) buf (i * 4 + 3) (signed (uncoded c)) j
-      ∙ ap (λ (l : List ℤ). set l (i * 4 + 3) (signed (uncoded c))) (sym w ∙ ap numbers cut)
-      ∙ set_one (take i rs) r (drop (suc i) rs) (uncoded c) i d ∙ sym (ap numbers painted_is) in
+      let now : take (n * 4) new ≡ numbers (map (paint r.to p) rs) =
+      ap (take (n * 4)) e ∙ take-set-lt (n * 4) buf (i * 4 + 3) (signed p) j
+      ∙ ap (λ (l : List ℤ). set l (i * 4 + 3) (signed p)) (sym w ∙ ap numbers cut)
+      ∙ set_one (take i rs) r (drop (suc i) rs) p i d ∙ sym (ap numbers painted_is) in
       let at : r ≡ row_held buf n i = held_at buf n (room buf n g.laid) i g.there in
       record {
-        laid = laid_by new n (map (paint r.to (uncoded c)) rs) g.laid.few (omega (arith, g.laid.room)) now
-            (every_true row_fits (map (paint r.to (uncoded c)) rs) fits_painted)
-            (rising_true _ (rising_paint r.to (uncoded c) rs (true_rising rs g.laid.passed.rises)));
-        rows = ap rows_in now ∙ rows_numbers (map (paint r.to (uncoded c)) rs)
-            ∙ ap (λ (x : Row). map (paint x.to (uncoded c)) rs) at;
+        laid = laid_by new n (map (paint r.to p) rs) g.laid.few (omega (arith, g.laid.room)) now
+            (every_true row_fits (map (paint r.to p) rs) fits_painted)
+            (rising_true _ (rising_paint r.to p rs (true_rising rs g.laid.passed.rises)));
+        rows = ap rows_in now ∙ rows_numbers (map (paint r.to p) rs)
+            ∙ ap (λ (x : Row). map (paint x.to p) rs) at;
       }
+
+-- the production written in the array
+pub gives : (buf : List ℤ) (lo n i : ℕ) (p : Option ℕ) (z : ℤ) → Laid (view buf lo) n → Tree (held (view buf lo) n)
+    → i < n → production_fits p ≡ true → z ≡ signed p
+    → Given (view buf lo) (view (set buf ((lo + i) * 4 + 3) z) lo) n i p
+gives buf lo n i p z l t h f d =
+    let e : view (set buf ((lo + i) * 4 + 3) z) lo ≡ set (view buf lo) (i * 4 + 3) (signed p) =
+    view_set buf lo i 3 z ∙ ap (set (view buf lo) (i * 4 + 3)) d in
+    given (view buf lo) n i p f (record { laid = l; tree = t; there = h }) (view (set buf ((lo + i) * 4 + 3) z) lo) e
+    (ap length e ∙ simp length-set)

@@ -1,11 +1,13 @@
 -- A row put in at the place that the search names is inserted, and the rows stay rising and within bounds.
 -- Assumes nothing.
-use mathlib.Core.Path.{◌≡◌, refl, ap, sym, ◌∙◌}
+use mathlib.Core.Path.{◌≡◌, refl, ap, sym, subst, ◌∙◌}
 use mathlib.Core.Logic.{⊎_elim}
+use mathlib.Core.Option.{Option}
 use mathlib.Core.Bool.{true, false, ◌&&◌}
 use mathlib.Core.List.{List, [], ◌∷◌, ◌++◌}
 use Prim.Native.Nat.{ℕ, zero, suc, ◌+◌, ◌*◌, ◌/◌, ◌<◌, ◌≤◌}
 use native.Mathlib.Omega.{arith}
+use native.Mathlib.Numerals.{add-one}
 use borrow.Author.Tests.{le-leb, lt-ltb, le-ltb}
 use lib.Dec.{leb, ltb}
 use lib.ListN.{length, get_or, take, drop}
@@ -17,15 +19,21 @@ use Rattle.laws.proofs.RowNumbers.{rows_numbers}
 use Rattle.paper.specs.Rows.{Row, signed, rows_in, numbers}
 use Rattle.paper.specs.Checks.{every, row_fits, production_fits, before, rising}
 use Rattle.paper.specs.Build.{insert}
-use Rattle.rows.specs.Places.{row_at, key, uncoded}
+use Rattle.rows.specs.Places.{row_at, key}
 use Rattle.rows.proofs.Keys.{before_key, compared}
 use Rattle.rows.proofs.Passing.{fit_at}
 use Rattle.search.proofs.Finding.{found}
 use Rattle.trees.proofs.Find.{In}
 use Rattle.trees.proofs.Rising.{true_rising, rising_true, rising_insert, in_insert}
 use Rattle.grow_laws.specs.Moves.{put_in, Inserted}
-use Rattle.grow_laws.specs.Held.{held, Laid, Adding, next, Added}
+use Rattle.grow_laws.specs.Held.{held, Laid, Missed, next, Added}
 use Rattle.grow_laws.proofs.Written.{numbers_append, numbers_take, numbers_drop, numbers_back, no_row, row_there, held_numbers, held_length, held_at}
+
+-- a row from s by t to the next state, whose place among the n rows is i.
+pub record Adding (buf : List ℤ) (n i s t : ℕ) : Type 0 where
+  pub missed : Missed buf n i s t
+  pub more : n < 1023
+  pub terminal : t ≤ 65535
 
 -- a row goes before the first row that it comes before
 pub insert_at : (r : Row) (rs : List Row) (p : ℕ) → p ≤ length rs
@@ -41,11 +49,6 @@ insert_at r (x ∷ rs) (suc p) h b a =
       b 0 (omega arith),
       insert_at r rs p (omega arith) (λ k l. b (suc k) (omega arith)) (λ l. a (omega arith)),
     )
-
-pub uncoded_fits : (c : ℕ) → c ≤ 65536 → production_fits (uncoded c) ≡ true
-unfolding production_fits
-uncoded_fits zero h = refl
-uncoded_fits (suc q) h = le-leb q 65535 (omega arith)
 
 pub fitting : (r : Row) → r.from ≤ 1023 → r.terminal ≤ 65535 → r.to ≤ 1023 → production_fits r.production ≡ true
     → row_fits r ≡ true
@@ -69,7 +72,7 @@ laid_by buf n rs f m e a b =
     let h : rows_in (take (n * 4) buf) ≡ rs = ap rows_in e ∙ rows_numbers rs in
     record { few = f; room = m; passed = record { fits = rw h a; rises = rw h b } }
 
-module _ (buf : List ℤ) (n i s t c : ℕ) (a : Adding buf n i s t c) where
+module _ (buf : List ℤ) (n i s t : ℕ) (p : Option ℕ) (f : production_fits p ≡ true) (a : Adding buf n i s t) where
   abbrev ns : List ℤ
   ns = take (n * 4) buf
 
@@ -77,7 +80,7 @@ module _ (buf : List ℤ) (n i s t c : ℕ) (a : Adding buf n i s t c) where
   rs = rows_in (take (n * 4) buf)
 
   abbrev r : Row
-  r = next n s t c
+  r = next n s t p
 
   laid : Laid buf n
   laid = a.missed.laid
@@ -126,7 +129,7 @@ module _ (buf : List ℤ) (n i s t c : ℕ) (a : Adding buf n i s t c) where
       let m : length rs ≡ n = rows_long in
       insert_at r rs i (omega (arith, place_within)) lower (λ h. higher (omega arith))
 
-  module _ (new : List ℤ) (e : Inserted buf new n i (pos s) (pos t) (pos (suc n)) (signed (uncoded c))) where
+  module _ (new : List ℤ) (e : Inserted buf new n i (pos s ∷ pos t ∷ pos (suc n) ∷ signed p ∷ [])) where
     now_written : take (suc n * 4) new ≡ numbers (insert r rs)
     unfolding put_in
     now_written =
@@ -135,7 +138,7 @@ module _ (buf : List ℤ) (n i s t c : ℕ) (a : Adding buf n i s t c) where
         rw m (e.rows ∙ sym (ap numbers split ∙ numbers_append (take i rs) (r ∷ drop i rs)
         ∙ rw (numbers_take i rs, numbers_drop i rs, w)))
 
-    pub added : Added buf new n i s t c
+    pub added : Added buf new n i s t p
     added = record {
       there = omega (arith, place_within);
       at = sym (held_at new (suc n) (omega (arith, a.more, e.room)) i (omega (arith, place_within)))
@@ -149,7 +152,16 @@ module _ (buf : List ℤ) (n i s t c : ℕ) (a : Adding buf n i s t c) where
     }
       where
         own : row_fits r ≡ true
-        own = fitting r a.missed.from a.terminal (omega (arith, a.more)) (uncoded_fits c a.production)
+        own = fitting r a.missed.from a.terminal (omega (arith, a.more)) f
 
         old : (x : Row) → In x rs → row_fits x ≡ true
         old x k = every_in row_fits rs laid.passed.fits x k
+
+-- the numbers of the row as they were passed on
+pub adds : (buf new : List ℤ) (n i s t : ℕ) (p : Option ℕ) (w x y z : ℤ) → Missed buf n i s t → n < 1023 → t ≤ 65535
+    → production_fits p ≡ true → Inserted buf new n i (w ∷ x ∷ y ∷ z ∷ [])
+    → w ≡ pos s → x ≡ pos t → y ≡ pos (n + 1) → z ≡ signed p → Added buf new n i s t p
+adds buf new n i s t p w x y z m h k f e ew ex ey ez =
+    added buf n i s t p f (record { missed = m; more = h; terminal = k }) new
+    (subst (λ (row : List ℤ). Inserted buf new n i row)
+    (λ j. ew j ∷ ex j ∷ (ey ∙ ap pos (add-one n)) j ∷ ez j ∷ []) e)

@@ -1,23 +1,20 @@
 -- The array seen from a row on: what is read, written, lent and given back there.
 -- Assumes nothing.
 use mathlib.Core.Path.{◌≡◌, refl, ap, sym, ◌∙◌}
+use Rattle.std.specs.Prelude.{Result, Ok, Err}
 use mathlib.Core.List.{List, [], ◌++◌, append-nil}
-use Prim.Native.Nat.{ℕ, ◌+◌, ◌-◌, ◌*◌, ◌/◌, ◌<◌, ◌≤◌}
+use Prim.Native.Nat.{ℕ, ◌+◌, ◌-◌, ◌*◌, ◌<◌, ◌≤◌}
 use native.Mathlib.Omega.{arith}
-use lib.ListN.{length, get_or, take, drop, set, length-drop, drop_of_length-le}
-use lib.Seq.{length-take-le, take_all, drop_at, drop-drop, drop-set-add, get_or-drop}
-use lib.IntN.{ℤ, pos}
-use Rattle.paper.specs.Rows.{Row, natural, accepting}
-use Rattle.rows.proofs.Codes.{uncoded_code}
-use Rattle.rows.specs.Places.{row_at, code, uncoded}
+use lib.ListN.{length, take, drop, set, length-drop, drop_of_length-le}
+use lib.Seq.{length-take-le, take_all, drop_at, drop-drop, drop-set-add}
+use lib.IntN.{ℤ}
+use Rattle.rows.specs.Places.{row_at}
 use Rattle.search.specs.Search.{Finds}
-use Rattle.search.specs.declared.Found.{Found}
-use Rattle.search.specs.declared.Found.TheVariants.{At, Missing}
 use Rattle.rows.proofs.Passing.{fit_at}
 use Rattle.grow_laws.specs.Moves.{opened, inserted, put_in, Inserted, Slid}
-use Rattle.grow_laws.specs.Held.{view, row_held, Laid, Seeks, Coded}
+use Rattle.grow_laws.specs.Held.{view, row_held, Laid, Seeks}
 use Rattle.grow_laws.proofs.Shifted.{slid_rows}
-use Rattle.grow_laws.proofs.Written.{held_numbers, held_row}
+use Rattle.grow_laws.proofs.Written.{held_numbers}
 use Rattle.grow_laws.proofs.Placed.{room}
 use Rattle.grow_laws.proofs.PutIn.{from_above, from_below}
 
@@ -46,11 +43,6 @@ pub rows_part : (buf : List ℤ) (a m : ℕ) → take (a + m - a) (drop a buf) �
 rows_part buf a m = let e : a + m - a ≡ m = omega arith in rw e
 
 -- ---- what is read and written there
-view_number : (buf : List ℤ) (lo i j : ℕ) → get_or buf ((lo + i) * 4 + j) (pos 0) ≡ get_or (view buf lo) (i * 4 + j) (pos 0)
-view_number buf lo i j =
-    let e : (lo + i) * 4 + j ≡ lo * 4 + (i * 4 + j) = omega arith in
-    rw e (sym (get_or-drop (lo * 4) buf (i * 4 + j) (pos 0)))
-
 pub view_set : (buf : List ℤ) (lo i j : ℕ) (z : ℤ)
     → view (set buf ((lo + i) * 4 + j) z) lo ≡ set (view buf lo) (i * 4 + j) z
 view_set buf lo i j z =
@@ -64,56 +56,45 @@ reached buf lo h = omega (arith, length-drop (lo * 4) buf)
 pub reach : (buf : List ℤ) (lo n : ℕ) → Laid (view buf lo) n → lo * 4 + n * 4 ≤ length buf
 reach buf lo n l = omega (arith, l.few, l.room, length-drop (lo * 4) buf)
 
-module _ (buf : List ℤ) (lo n i : ℕ) (l : Laid (view buf lo) n) (h : i < n) where
-  held_fit : i < length (take (n * 4) (view buf lo)) / 4
-  held_fit = omega (arith, held_numbers (view buf lo) n (room (view buf lo) n l))
+module _ (buf : List ℤ) (n i : ℕ) (l : Laid buf n) (h : i < n) where
+  pub to_small : (row_held buf n i).to ≤ 1023
+  to_small = (fit_at l.passed i (omega (arith, held_numbers buf n (room buf n l)))).to
 
-  pub to_read : (to : ℕ) → to ≡ (row_at buf (lo + i)).to → (to ≡ (row_held (view buf lo) n i).to) × (to ≤ 1023)
-  to_read to e =
-      let d : to ≡ (row_held (view buf lo) n i).to =
-      e ∙ ap natural (view_number buf lo i 2)
-      ∙ ap (λ (x : Row). x.to) (sym (held_row (view buf lo) n (room (view buf lo) n l) i h)) in
-      (d, omega (arith, d, (fit_at l.passed i held_fit).to))
-
-  pub code_read : (p : ℕ) → p ≡ code (row_at buf (lo + i)).production → Coded (row_held (view buf lo) n i).production p
-  code_read p e =
-      let d : p ≡ code (row_held (view buf lo) n i).production =
-      e ∙ ap (λ (z : ℤ). code (accepting z)) (view_number buf lo i 3)
-      ∙ ap (λ (x : Row). code x.production) (sym (held_row (view buf lo) n (room (view buf lo) n l) i h)) in
-      record {
-        is = ap uncoded d ∙ uncoded_code (row_held (view buf lo) n i).production;
-        small = omega (arith, d, (fit_at l.passed i held_fit).production);
-      }
+  pub to_read : (to : ℕ) (ns : List ℤ) → to ≡ (row_at ns i).to → ns ≡ take (n * 4) buf
+      → (to ≡ (row_held buf n i).to) × (to ≤ 1023)
+  to_read to ns e d =
+      let k : to ≡ (row_held buf n i).to = e ∙ ap (λ (x : List ℤ). (row_at x i).to) d in
+      (k, omega (arith, k, to_small))
 
 -- ---- what the search there answers
-pub seeks : (buf : List ℤ) (n s t : ℕ) (f : Found) → Laid buf n → s ≤ 1023 → Finds (take (n * 4) buf) s t f
+pub seeks : (buf : List ℤ) (n s t : ℕ) (f : Result ℕ ℕ) → Laid buf n → s ≤ 1023 → Finds (take (n * 4) buf) s t f
     → Seeks buf n s t f
-seeks buf n s t (At i) l h (d, e) = (omega (arith, d, held_numbers buf n (room buf n l)), e)
-seeks buf n s t (Missing i) l h (e, p) = record { laid = l; from = h; new = e; place = p }
+seeks buf n s t (Ok i) l h (d, e) = (omega (arith, d, held_numbers buf n (room buf n l)), e)
+seeks buf n s t (Err i) l h (e, p) = record { laid = l; from = h; new = e; place = p }
 
 -- ---- a row put in there, and where the rows begin then
-module _ (buf : List ℤ) (lo n p : ℕ) (w x y z : ℤ) (h : p ≤ n) (f : n < 1023) (m : 4092 ≤ length (view buf lo)) where
+module _ (buf : List ℤ) (lo n p : ℕ) (row : List ℤ) (four : length row ≡ 4) (h : p ≤ n) (f : n < 1023) (m : 4092 ≤ length (view buf lo)) where
   within : lo * 4 + 4092 ≤ length buf
   within = reached buf lo m
 
-  pub moved_up : (ys : List ℤ) → ys ≡ inserted (part buf (lo * 4)) n p w x y z
+  pub moved_up : (ys : List ℤ) → ys ≡ inserted (part buf (lo * 4)) n p row
       → length ys ≡ length (part buf (lo * 4))
-      → Inserted (view buf lo) (view (back buf (lo * 4) ys) lo) n p w x y z
+      → Inserted (view buf lo) (view (back buf (lo * 4) ys) lo) n p row
   moved_up ys e s =
       let b : lo * 4 ≤ length buf = omega (arith, within) in
-      from_above p w x y z (view buf lo) n h (omega arith) (view (back buf (lo * 4) ys) lo)
-      (back_is buf (lo * 4) ys b ∙ e ∙ ap (λ (l : List ℤ). inserted l n p w x y z) (part_is buf (lo * 4)))
+      from_above p row four (view buf lo) n h (omega arith) (view (back buf (lo * 4) ys) lo)
+      (back_is buf (lo * 4) ys b ∙ e ∙ ap (λ (l : List ℤ). inserted l n p row) (part_is buf (lo * 4)))
       (omega (arith, ap length (back_is buf (lo * 4) ys b), s, part_long buf (lo * 4), within))
 
-  pub moved_down : 0 < lo → (ys : List ℤ) → ys ≡ put_in (drop 4 (part buf ((lo - 1) * 4))) p w x y z
-      → Inserted (view buf lo) (view (back buf ((lo - 1) * 4) ys) (lo - 1)) n p w x y z
+  pub moved_down : 0 < lo → (ys : List ℤ) → ys ≡ put_in (drop 4 (part buf ((lo - 1) * 4))) p row
+      → Inserted (view buf lo) (view (back buf ((lo - 1) * 4) ys) (lo - 1)) n p row
   moved_down d ys e =
       let a = (lo - 1) * 4 in
       let k : a + 4 ≡ lo * 4 = omega arith in
       let r : drop 4 (part buf a) ≡ view buf lo =
       ap (drop 4) (part_is buf a) ∙ drop-drop 4 a buf ∙ ap (λ (j : ℕ). drop j buf) k in
-      from_below p w x y z (view buf lo) n h (omega arith) (view (back buf a ys) (lo - 1))
-      (back_is buf a ys (omega (arith, within)) ∙ e ∙ ap (λ (l : List ℤ). put_in l p w x y z) r) m
+      from_below p row four (view buf lo) n h (omega arith) (view (back buf a ys) (lo - 1))
+      (back_is buf a ys (omega (arith, within)) ∙ e ∙ ap (λ (l : List ℤ). put_in l p row) r) m
 
 -- ---- rows that slid up, or stayed
 module _ (buf : List ℤ) (lo n : ℕ) (f : n < 1023) (m : 4092 ≤ length (view buf lo)) where

@@ -1,15 +1,12 @@
 -- Rows that stand in an array from a row on: what stands there, and what a new row and a new production make of it.
-use Rattle.std.specs.Prelude.{◌≡◌, List, map, ℕ, suc, ◌+◌, ◌*◌, ◌≤◌, ◌<◌, length, take, drop, ℤ}
+use Rattle.std.specs.Prelude.{◌≡◌, List, map, ℕ, suc, ◌+◌, ◌*◌, ◌≤◌, ◌<◌, length, take, drop, ℤ, Result, Ok, Err}
 use Rattle.std.proofs.Math.Option.{Option, none, some}
 use Rattle.paper.specs.Rows.{Row, Table, rows_in, find}
 use Rattle.paper.specs.Build.{insert}
-use Rattle.rows.specs.Places.{row_at, uncoded}
+use Rattle.rows.specs.Places.{row_at}
 use Rattle.rows.specs.Passed.{Passed}
 use Rattle.search.specs.Search.{Lower}
-use Rattle.search.specs.declared.Found.{Found}
-use Rattle.search.specs.declared.Found.TheVariants.{At, Missing}
 use Rattle.trees.proofs.Paint.{paint}
-use Rattle.trees.proofs.Tree.{Tree}
 
 -- The array from row lo on: where the rows of a table that grows stand.
 abbrev pub view : List ℤ → ℕ → List ℤ
@@ -29,9 +26,9 @@ pub record Laid (buf : List ℤ) (n : ℕ) : Type 0 where
   pub room : 4092 ≤ length buf
   pub passed : Passed (take (n * 4) buf)
 
--- The table of these rows, with the code of its prod0.
-abbrev pub table_of : ℕ → ℕ → List ℤ → ℕ → Table
-table_of code k buf n = record { prod0 = uncoded code; k = k; rows = held buf n }
+-- The table of these rows.
+abbrev pub table_of : Option ℕ → ℕ → List ℤ → ℕ → Table
+table_of p k buf n = record { prod0 = p; k = k; rows = held buf n }
 
 -- The search found no row from s by t, and i is where it would go.
 pub record Missed (buf : List ℤ) (n i s t : ℕ) : Type 0 where
@@ -41,41 +38,22 @@ pub record Missed (buf : List ℤ) (n i s t : ℕ) : Type 0 where
   pub place : Lower (take (n * 4) buf) (s * 65536 + t) i
 
 -- Row i of n is the row from s by t; or there is none, and i is where it would go.
-abbrev pub Seeks : List ℤ → ℕ → ℕ → ℕ → Found → Type 0
-Seeks buf n s t (At i) = (i < n) × (find (held buf n) s t ≡ some (row_held buf n i))
-Seeks buf n s t (Missing i) = Missed buf n i s t
-
--- A row from s by t to the next state, whose place among the n rows is i.
-pub record Adding (buf : List ℤ) (n i s t code : ℕ) : Type 0 where
-  pub missed : Missed buf n i s t
-  pub more : n < 1023
-  pub terminal : t ≤ 65535
-  pub production : code ≤ 65536
+abbrev pub Seeks : List ℤ → ℕ → ℕ → ℕ → Result ℕ ℕ → Type 0
+Seeks buf n s t (Ok i) = (i < n) × (find (held buf n) s t ≡ some (row_held buf n i))
+Seeks buf n s t (Err i) = Missed buf n i s t
 
 -- The row from s by t to the state after n.
-abbrev pub next : ℕ → ℕ → ℕ → ℕ → Row
-next n s t code = record { from = s; terminal = t; to = suc n; production = uncoded code }
+abbrev pub next : ℕ → ℕ → ℕ → Option ℕ → Row
+next n s t p = record { from = s; terminal = t; to = suc n; production = p }
 
 -- That row stands at its place, and the rows are the old ones with it inserted.
-pub record Added (old new : List ℤ) (n i s t code : ℕ) : Type 0 where
+pub record Added (old new : List ℤ) (n i s t : ℕ) (p : Option ℕ) : Type 0 where
   pub laid : Laid new (suc n)
   pub there : i < suc n
-  pub at : row_held new (suc n) i ≡ next n s t code
-  pub rows : held new (suc n) ≡ insert (next n s t code) (held old n)
-
--- A production for the state that row i of a tree leads to.
-pub record Giving (buf : List ℤ) (n i code : ℕ) : Type 0 where
-  pub laid : Laid buf n
-  pub tree : Tree (held buf n)
-  pub there : i < n
-  pub production : code ≤ 65536
+  pub at : row_held new (suc n) i ≡ next n s t p
+  pub rows : held new (suc n) ≡ insert (next n s t p) (held old n)
 
 -- The rows with that production in each row into the state.
-pub record Given (old new : List ℤ) (n i code : ℕ) : Type 0 where
+pub record Given (old new : List ℤ) (n i : ℕ) (p : Option ℕ) : Type 0 where
   pub laid : Laid new n
-  pub rows : held new n ≡ map (paint (row_held old n i).to (uncoded code)) (held old n)
-
--- A production that a row carries, as its code.
-pub record Coded (q : Option ℕ) (r : ℕ) : Type 0 where
-  pub is : uncoded r ≡ q
-  pub small : r ≤ 65536
+  pub rows : held new n ≡ map (paint (row_held old n i).to p) (held old n)

@@ -1,6 +1,5 @@
 -- An answer that states a ruling hands that ruling over. Assumes nothing.
 use mathlib.Core.Path.{◌≡◌, refl, ap, sym, ◌∙◌}
-use mathlib.Core.Bool.{true, false}
 use mathlib.Core.Option.{Option}
 use mathlib.Core.List.{List, ◌∷◌, []}
 use Prim.Native.Nat.{ℕ, ◌<◌, ◌^◌}
@@ -13,15 +12,14 @@ use Rattle.laws.proofs.RowNumbers.{accepting_signed}
 use Rattle.paper.specs.declared.Refusal.{Refusal}
 use Rattle.paper.specs.declared.Refusal.TheVariants as refusal
 use Rattle.paper.specs.declared.Production.{Production}
-use Rattle.paper.specs.declared.Making.{Making}
-use Rattle.paper.specs.declared.Reading.{Reading}
-use Rattle.paper.specs.declared.Writing.{Writing}
-use Rattle.paper.specs.Rows.{Table, accepting, signed, table}
-use Rattle.paper.specs.Checks.{row_slice, plain}
-use Rattle.paper.specs.Answers.{Ruling, accept, refuse, then, number, detail, made, heard, wrote, Made, Makes, Reads, Writes}
+use Rattle.std.specs.Prelude.{Result, Ok, Err}
+use Rattle.paper.specs.declared.Heading.{Heading}
+use Rattle.paper.specs.declared.Title.{Title}
+use Rattle.paper.specs.declared.Prediction.{Prediction}
+use Rattle.paper.specs.Rows.{Table, accepting, signed}
+use Rattle.paper.specs.Answers.{Ruling, accept, refuse, then, number, detail, stated, predicted, Made, Makes, Reads, Writes}
 use Rattle.rows.specs.Places.{code}
-use Rattle.row_checks.specs.Verdicts.{Judges}
-use Rattle.row_checks.specs.declared.Verdict.TheVariants.{Pass, Refused}
+use Rattle.row_checks.specs.Verdicts.{Judges, whole}
 use Rattle.rows.proofs.Signed.{back}
 use Rattle.handed.specs.Handed.{
   returned,
@@ -31,6 +29,8 @@ use Rattle.handed.specs.Handed.{
   of_written,
   of_heading,
   of_title,
+  of_prediction,
+  of_chosen,
   of_count,
   table_checked,
   Hands,
@@ -81,41 +81,43 @@ read_back : (p : Option ℕ) → mag (signed p) < 2 ^ 31 →
     accepting (to_z w32 (of_z w32 (signed p))) ≡ p
 read_back p h = ap accepting (back (signed p) h) ∙ accepting_signed p
 
-pub table_hands : (g : Ruling Made) (said : Making) (old new : List ℤ) (r : ℕ) (answer : List ℕ) →
+pub table_hands : (g : Ruling Made) (said : Result Heading Refusal) (old new : List ℤ) (r : ℕ) (answer : List ℕ) →
     ((m : Made) → g ≡ accept m → mag (signed m.table.prod0) < 2 ^ 31) → Makes g said old new →
-    Hands (made said) of_heading r answer → HandedTable g old new r answer
+    Hands (stated said) of_heading r answer → HandedTable g old new r answer
 table_hands g said old new r answer small m h = record {
-  hands = hand_over g (made said) _ of_made of_heading r answer m.says (λ a e.
+  hands = hand_over g (stated said) _ of_made of_heading r answer m.says (λ a e.
       ap (λ (p : Option ℕ). code p ∷ a.table.k ∷ length a.table.rows ∷ a.states ∷ [])
       (read_back a.table.prod0 (small a e))) h;
   holds = m.holds;
 }
 
-pub read_hands : (g : Ruling Table) (said : Reading) (old new : List ℤ) (r : ℕ) (answer : List ℕ) →
+pub read_hands : (g : Ruling Table) (said : Result Title Refusal) (old new : List ℤ) (r : ℕ) (answer : List ℕ) →
     ((t : Table) → g ≡ accept t → mag (signed t.prod0) < 2 ^ 31) → Reads g said old new →
-    Hands (heard said) of_title r answer → HandedRead g old new r answer
+    Hands (stated said) of_title r answer → HandedRead g old new r answer
 read_hands g said old new r answer small m h = record {
-  hands = hand_over g (heard said) _ of_read of_title r answer m.says (λ t e.
+  hands = hand_over g (stated said) _ of_read of_title r answer m.says (λ t e.
       ap (λ (p : Option ℕ). code p ∷ t.k ∷ length t.rows ∷ []) (read_back t.prod0 (small t e))) h;
   holds = m.holds;
 }
 
-pub written_hands : {E : Type 0} (g : Ruling (List E)) (said : Writing) (old new : List E) (r : ℕ) (answer : List ℕ) →
-    Writes g said old new → Hands (wrote said) of_count r answer → HandedWritten g old new r answer
+pub written_hands : {E : Type 0} (g : Ruling (List E)) (said : Result ℕ Refusal) (old new : List E) (r : ℕ) (answer : List ℕ) →
+    Writes g said old new → Hands (stated said) of_count r answer → HandedWritten g old new r answer
 written_hands g said old new r answer m h = record {
-  hands = hand_over g (wrote said) _ of_written of_count r answer m.says (λ b e. refl) h;
+  hands = hand_over g (stated said) _ of_written of_count r answer m.says (λ b e. refl) h;
   holds = m.holds;
 }
 
+-- a prediction, whose production is a number to the definitions
+pub prediction_hands : (said : Result Prediction Refusal) (r : ℕ) (answer : List ℕ)
+    → Hands (stated said) of_prediction r answer → Hands (predicted said) of_chosen r answer
+prediction_hands (Ok p) r answer h = record { says = h.says; holds = h.holds }
+prediction_hands (Err f) r answer h = record { says = h.says; holds = h.holds }
+
 -- ---- the checks alone
-module _ (p : ℤ) (k : ℕ) (ns : List ℤ) where
-  pub checked_length : row_slice ns ≡ true → 1 ≡ returned (table_checked p k ns)
-  checked_length e = rw e refl
+module _ {A : Type 0} (p : ℤ) (k : ℕ) (ns : List ℤ) where
+  pub checked_refused : (f : Refusal) (r : ℕ) → Judges {A = A} (whole p k ns) (Err f) → r ≡ number f →
+      r ≡ returned (table_checked p k ns)
+  checked_refused f r j n = n ∙ sym (ap returned j.says)
 
-  module _ (e : row_slice ns ≡ false) where
-    pub checked_refused : (f : Refusal) (r : ℕ) → Judges (plain (table p k ns)) (Refused f) → r ≡ number f →
-        r ≡ returned (table_checked p k ns)
-    checked_refused f r j n = n ∙ sym (rw e (ap returned j.says))
-
-    pub checked_passed : Judges (plain (table p k ns)) Pass → 0 ≡ returned (table_checked p k ns)
-    checked_passed j = sym (rw e (ap returned j.says))
+  pub checked_passed : (a : A) → Judges (whole p k ns) (Ok a) → 0 ≡ returned (table_checked p k ns)
+  checked_passed a j = sym (ap returned j.says)

@@ -5,7 +5,10 @@ use Rattle.std.proofs.Common.{to_z, of_z}
 use Rattle.paper.specs.declared.Mode.{Mode}
 use Rattle.paper.specs.declared.Mode.TheVariants.{Archive, Intake}
 use Rattle.paper.specs.Rows.{Table, accepting, table, numbers}
-use Rattle.paper.specs.Answers.{Ruling, accept, refuse, output, Made, Chosen, Heading, Title}
+use Rattle.paper.specs.Answers.{Ruling, accept, refuse, output, Made, Chosen}
+use Rattle.paper.specs.declared.Heading.{Heading}
+use Rattle.paper.specs.declared.Title.{Title}
+use Rattle.paper.specs.declared.Prediction.{Prediction}
 use Rattle.paper.specs.Checks.{first, row_slice, plain}
 use Rattle.paper.specs.Explain.{Stretch}
 use Rattle.rows.specs.Places.{code}
@@ -56,6 +59,10 @@ of_heading h = code (accepting (to_z w32 (of_z w32 h.prod0))) ∷ h.k ∷ h.rows
 -- And of a table that was read.
 abbrev pub of_title : Title → List ℕ
 of_title h = code (accepting (to_z w32 (of_z w32 h.prod0))) ∷ h.k ∷ h.rows ∷ []
+
+-- And of a prediction.
+abbrev pub of_prediction : Prediction → List ℕ
+of_prediction p = p.production.0 ∷ p.entered ∷ []
 
 -- A ruling is handed over: a number, and four values.
 pub record Hands {A : Type 0} (ruling : Ruling A) (f : A → List ℕ) (number : ℕ) (answer : List ℕ) : Type 0 where

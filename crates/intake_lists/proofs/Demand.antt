@@ -10,8 +10,9 @@ use Rattle.laws.proofs.RowNumbers.{accepting_signed, rows_numbers}
 use Rattle.laws.proofs.Refusals.{refuse_accept}
 use Rattle.paper.specs.declared.Production.{Production}
 use Rattle.paper.specs.declared.Refusal.TheVariants as refusal
-use Rattle.paper.specs.declared.Making.{Making}
-use Rattle.paper.specs.declared.Making.TheVariants as making
+use Rattle.std.specs.Prelude.{Result, Ok, Err}
+use Rattle.paper.specs.declared.Heading.{Heading}
+use Rattle.paper.specs.declared.Refusal.{Refusal}
 use Rattle.paper.specs.Answers.{Ruling, accept, refuse, Made, Makes}
 use Rattle.paper.specs.Lists.{Opening, longest}
 use Rattle.trees.specs.Bounds.{Within}
@@ -40,7 +41,7 @@ intake_any_order l ls l' ls' o w room room' h h' =
 
 -- ---- of any answer that the contract allows
 serves : (ls : List Opening) (m : Made) → Kept ls m → (p : ℤ) (k n s : ℕ) (old new : List ℤ) →
-    Makes (accept m) (making.Made p k n s) old new → Serves ls p k (take (n * 4) new) s
+    Makes (accept m) (Ok (record { prod0 = p; k = k; rows = n; states = s })) old new → Serves ls p k (take (n * 4) new) s
 serves ls m h p k n s old new c =
     rw (front m p k n s old new c, same_prod0 m p k n s old new c)
     (rw (same_k m p k n s old new c, same_states m p k n s old new c) (record {
@@ -52,19 +53,20 @@ serves ls m h p k n s old new c =
       predicts = h.predicts;
     }))
 
-answers : (ls : List Opening) {g : Ruling Made} → Demanded ls g → (r : Making) (old new : List ℤ) →
+answers : (ls : List Opening) {g : Ruling Made} → Demanded ls g → (r : Result Heading Refusal) (old new : List ℤ) →
     Makes g r old new → Answered ls old new r
-answers ls (kept {m} h) (making.Made p k n s) old new c = served (serves ls m h p k n s old new c)
-answers ls (kept {m} h) (making.Refused f) old new c = refuse_accept c.says
+answers ls (kept {m} h) (Ok x) old new c =
+    served (serves ls m h x.prod0 x.k x.rows x.states old new c)
+answers ls (kept {m} h) (Err f) old new c = refuse_accept c.says
 answers ls (demand.clashed {p} {q} h) r old new c =
     let a : Production = record { 0 = p } in
     let b : Production = record { 0 = q } in
-    let told : Makes (refuse 8 (p ∷ q ∷ [])) (making.Refused (refusal.Clash a b)) old old =
+    let told : Makes (refuse 8 (p ∷ q ∷ [])) (Err (refusal.Clash a b)) old old =
     record { says = refl; holds = refl } in
-    let (e, f) = makes_one (refuse 8 (p ∷ q ∷ [])) old r (making.Refused (refusal.Clash a b)) new old c told in
+    let (e, f) = makes_one (refuse 8 (p ∷ q ∷ [])) old r (Err (refusal.Clash a b)) new old c told in
     rw e (clashed h f)
 
-pub intake_answers : (l : Opening) (ls : List Opening) → Within (l ∷ ls) → (r : Making) (old new : List ℤ) →
+pub intake_answers : (l : Opening) (ls : List Opening) → Within (l ∷ ls) → (r : Result Heading Refusal) (old new : List ℤ) →
     16384 ≤ length old → Makes (call_of (l ∷ ls) (length old)) r old new → Answered (l ∷ ls) old new r
 intake_answers l ls w r old new h c =
     answers (l ∷ ls) (intake_demand3 l ls w (length old) h) r old new c

@@ -13,8 +13,8 @@ use borrow.Author.Tests.{eq-eqb, le-ltb}
 use Rattle.laws.proofs.RowNumbers.{table_numbers, slice_numbers}
 use Rattle.paper.specs.declared.Mode.TheVariants.{Intake}
 use Rattle.paper.specs.declared.Refusal.{Refusal}
-use Rattle.paper.specs.declared.Making.{Making}
-use Rattle.paper.specs.declared.Making.TheVariants as making
+use Rattle.std.specs.Prelude.{Result, Ok, Err}
+use Rattle.paper.specs.declared.Heading.{Heading}
 use Rattle.paper.specs.Rows.{rows_in, table}
 use Rattle.paper.specs.Answers.{refuse, number, detail, then, Made, Makes}
 use Rattle.paper.specs.Checks.{row_slice, little_room}
@@ -74,26 +74,26 @@ module _ (p : ℤ) (k n s : ℕ) (a : List ℤ) (few : n ≤ 1023) (room : 4092 
       (rw (table_numbers (table p k (take (n * 4) a)))))
 
   -- the next list is refused
-  pub join_refused : (l : Lent) (r : Making) (f : Refusal) (b c : List ℤ) → r ≡ making.Refused f →
+  pub join_refused : (l : Lent) (r : Result Heading Refusal) (f : Refusal) (b c : List ℤ) → r ≡ Err f →
       Holds (build l.production l.tokens l.lengths 16384) r b →
-      Holds (then (held (making.Made p k n s) a) (λ m. join_lent m l)) r c
+      Holds (then (held (Ok (record { prod0 = p; k = k; rows = n; states = s })) a) (λ m. join_lent m l)) r c
   unfolding join_lent build_lent
   join_refused l r f b c e h =
       rw e (let g : refuse (number f) (detail f) ≡ build l.production l.tokens l.lengths 16384 =
-      ap (λ (x : Making). held x b) (sym e) ∙ h.is in record { is = rw (← g); few = tt })
+      ap (λ (x : Result Heading Refusal). held x b) (sym e) ∙ h.is in record { is = rw (← g); few = tt })
 
   -- it is built, and then united
   pub join_built : (l : Lent) (q : ℤ) (j m u : ℕ) (b : List ℤ) → 4092 ≤ length b →
-      Holds (build l.production l.tokens l.lengths 16384) (making.Made q j m u) b →
-      (r : Making) (c : List ℤ) →
+      Holds (build l.production l.tokens l.lengths 16384) (Ok (record { prod0 = q; k = j; rows = m; states = u })) b →
+      (r : Result Heading Refusal) (c : List ℤ) →
       Holds (unite Intake p k (take (n * 4) a) q j (take (m * 4) b) 16384) r c →
-      Holds (then (held (making.Made p k n s) a) (λ m. join_lent m l)) r c
+      Holds (then (held (Ok (record { prod0 = p; k = k; rows = n; states = s })) a) (λ m. join_lent m l)) r c
   unfolding join_lent build_lent
   join_built l q j m u b room' h r c g =
       record { is = g.is ∙ unite_as q j m u b h.few.0 room' ∙ rw (← h.is); few = g.few }
 
   -- the table is shrunk
-  pub finish_made : (r : Making) (old new : List ℤ) → 16384 ≤ length old →
+  pub finish_made : (r : Result Heading Refusal) (old new : List ℤ) → 16384 ≤ length old →
       Makes (shrink Intake p k (take (n * 4) a) (length old)) r old new →
-      Makes (then (held (making.Made p k n s) a) shrink_made) r old new
+      Makes (then (held (Ok (record { prod0 = p; k = k; rows = n; states = s })) a) shrink_made) r old new
   finish_made r old new h m = rw (shrink_as (length old) h) at m

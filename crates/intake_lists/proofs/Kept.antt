@@ -14,10 +14,10 @@ use borrow.Author.Tests.{leb-true}
 use Rattle.laws.proofs.RowNumbers.{table_numbers, length_numbers}
 use Rattle.paper.specs.declared.Mode.TheVariants.{Intake}
 use Rattle.paper.specs.declared.Refusal.{Refusal}
-use Rattle.paper.specs.declared.Making.{Making}
-use Rattle.paper.specs.declared.Making.TheVariants as making
+use Rattle.std.specs.Prelude.{Result, Ok, Err}
+use Rattle.paper.specs.declared.Heading.{Heading}
 use Rattle.paper.specs.Rows.{Row, Table, signed, numbers, natural}
-use Rattle.paper.specs.Answers.{Ruling, accept, refuse, number, detail, Made, Heading, Makes}
+use Rattle.paper.specs.Answers.{Ruling, accept, refuse, number, detail, Made, Makes}
 use Rattle.paper.specs.Checks.{production_fits}
 use Rattle.paper.specs.Build.{add_string, add_strings, built, strings, build, build_lengths, build_range}
 use Rattle.paper.specs.Unite.{unite}
@@ -28,14 +28,14 @@ use Rattle.build_checks.proofs.Checked.{production_in}
 use Rattle.intake_lists.specs.Held.{held, Few, Holds}
 
 -- an accepting answer accepts
-accepted : (g : Ruling Made) (p : ℤ) (k n s : ℕ) (old new : List ℤ) → Makes g (making.Made p k n s) old new →
+accepted : (g : Ruling Made) (p : ℤ) (k n s : ℕ) (old new : List ℤ) → Makes g (Ok (record { prod0 = p; k = k; rows = n; states = s })) old new →
     (m : Made) × (g ≡ accept m)
 accepted (accept m) p k n s old new h = (m, refl)
 accepted (refuse c d) p k n s old new h =
     let e = h.says in
     let z : ◌≡◌ {A = ℕ} 0 1 = cc in absurd (omega arith)
 
-module _ (m : Made) (p : ℤ) (k n s : ℕ) (old new : List ℤ) (h : Makes (accept m) (making.Made p k n s) old new) where
+module _ (m : Made) (p : ℤ) (k n s : ℕ) (old new : List ℤ) (h : Makes (accept m) (Ok (record { prod0 = p; k = k; rows = n; states = s })) old new) where
   heading : ◌≡◌ {A = Heading} (record { prod0 = p; k = k; rows = n; states = s }) (record {
     prod0 = signed m.table.prod0;
     k = m.table.k;
@@ -63,7 +63,7 @@ module _ (m : Made) (p : ℤ) (k n s : ℕ) (old new : List ℤ) (h : Makes (acc
       ap (take (n * 4)) h.holds ∙ take_at (numbers rs) (drop (length (numbers rs)) old) (n * 4) e
 
   held_accepted : (buf : List ℤ) → take (n * 4) buf ≡ take (n * 4) new →
-      held (making.Made p k n s) buf ≡ accept m
+      held (Ok (record { prod0 = p; k = k; rows = n; states = s })) buf ≡ accept m
   held_accepted buf e =
       let t : Table = m.table in
       rw (e, front, same_prod0, same_k, same_states, table_numbers t)
@@ -108,8 +108,8 @@ united_small p k ns q l ms room m e =
     (omega (arith, sound_size m.table s), signed_fits _ (range_fits m.table s.ranged).root)
 
 module _ (g : Ruling Made) (p : ℤ) (k n s : ℕ) (old new : List ℤ) (small : Small g)
-    (h : Makes g (making.Made p k n s) old new) where
-  pub made_few : Few (making.Made p k n s)
+    (h : Makes g (Ok (record { prod0 = p; k = k; rows = n; states = s })) old new) where
+  pub made_few : Few (Ok (record { prod0 = p; k = k; rows = n; states = s }))
   made_few =
       let (m, e) = accepted g p k n s old new h in
       let i = rw e at h in (
@@ -118,20 +118,20 @@ module _ (g : Ruling Made) (p : ℤ) (k n s : ℕ) (old new : List ℤ) (small :
       )
 
   -- the rows are kept
-  pub holds_made : (buf : List ℤ) → take (n * 4) buf ≡ take (n * 4) new → Holds g (making.Made p k n s) buf
+  pub holds_made : (buf : List ℤ) → take (n * 4) buf ≡ take (n * 4) new → Holds g (Ok (record { prod0 = p; k = k; rows = n; states = s })) buf
   holds_made buf b =
       let (m, e) = accepted g p k n s old new h in
       record { is = held_accepted m p k n s old new (rw e at h) buf b ∙ sym e; few = made_few }
 
 -- a refusal
-refused : (g : Ruling Made) (f : Refusal) (old new : List ℤ) → Makes g (making.Refused f) old new →
+refused : (g : Ruling Made) (f : Refusal) (old new : List ℤ) → Makes g (Err f) old new →
     refuse (number f) (detail f) ≡ g
 refused (accept m) f old new h =
     let e = h.says in
     let z : ◌≡◌ {A = ℕ} 0 1 = cc in absurd (omega arith)
 refused (refuse n d) f old new h = let e = h.says in cc
 
-pub holds_refused : (g : Ruling Made) (r : Making) (f : Refusal) (old new buf : List ℤ) → r ≡ making.Refused f →
+pub holds_refused : (g : Ruling Made) (r : Result Heading Refusal) (f : Refusal) (old new buf : List ℤ) → r ≡ Err f →
     Makes g r old new → Holds g r buf
 holds_refused g r f old new buf e h =
     rw e (record { is = refused g f old new (rw e at h); few = tt })

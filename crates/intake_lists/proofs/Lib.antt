@@ -2,7 +2,7 @@ pub mod Fronts
 pub mod Lengths
 pub mod Kept
 pub mod Joined
-pub mod Lists
+pub mod NextList
 pub mod Joining
 pub mod Answering
 pub mod Lends

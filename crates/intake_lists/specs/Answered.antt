@@ -1,11 +1,11 @@
 -- Demand 3 of an answer of the call and the output that it leaves.
-use Rattle.std.specs.Prelude.{ℕ, ◌*◌, ◌≤◌, ◌<◌, ◌≡◌, length, take, ℤ}
+use Rattle.std.specs.Prelude.{ℕ, ◌*◌, ◌≤◌, ◌<◌, ◌≡◌, length, take, ℤ, Result, Ok, Err}
 use mathlib.Core.List.{List, Memᴰ}
 use Rattle.paper.specs.declared.Mode.TheVariants.{Intake}
 use Rattle.paper.specs.declared.Production.{Production}
 use Rattle.paper.specs.declared.Refusal.TheVariants as refusal
-use Rattle.paper.specs.declared.Making.{Making}
-use Rattle.paper.specs.declared.Making.TheVariants as making
+use Rattle.paper.specs.declared.Refusal.{Refusal}
+use Rattle.paper.specs.declared.Heading.{Heading}
 use Rattle.paper.specs.Rows.{accepting, rows_in, states}
 use Rattle.paper.specs.Shrink.{production_of, rows_of}
 use Rattle.paper.specs.Predict.{predict}
@@ -33,7 +33,7 @@ pub record Serves (ls : List Opening) (p : ℤ) (k : ℕ) (rows : List ℤ) (n :
 
 -- Such a table at the front of the output, or the refusal 8 of a string that stands under two numbers, and the output
 -- as it was.
-pub data Answered (ls : List Opening) (old new : List ℤ) : Making → Type 0 where
-  served : {p : ℤ} {k n s : ℕ} → Serves ls p k (take (n * 4) new) s → Answered ls old new (making.Made p k n s)
+pub data Answered (ls : List Opening) (old new : List ℤ) : Result Heading Refusal → Type 0 where
+  served : {p : ℤ} {k n s : ℕ} → Serves ls p k (take (n * 4) new) s → Answered ls old new (Ok (record { prod0 = p; k = k; rows = n; states = s }))
   clashed : {p q : Production} → Conflict ls p.0 q.0 → new ≡ old →
-      Answered ls old new (making.Refused (refusal.Clash p q))
+      Answered ls old new (Err (refusal.Clash p q))

@@ -1,24 +1,24 @@
 -- What an answer and the array that its rows stand in come to.
-use Rattle.std.specs.Prelude.{ℕ, ◌*◌, ◌^◌, ◌≤◌, ◌<◌, ◌≡◌, List, length, take, ℤ}
+use Rattle.std.specs.Prelude.{ℕ, ◌*◌, ◌^◌, ◌≤◌, ◌<◌, ◌≡◌, List, length, take, ℤ, Result, Ok, Err}
 use Rattle.std.specs.Int.Signed.{mag}
-use Rattle.paper.specs.declared.Making.{Making}
-use Rattle.paper.specs.declared.Making.TheVariants as making
+use Rattle.paper.specs.declared.Heading.{Heading}
+use Rattle.paper.specs.declared.Refusal.{Refusal}
 use Rattle.paper.specs.Rows.{table}
 use Rattle.paper.specs.Answers.{Ruling, accept, refuse, number, detail, Made}
 use Rattle.paper.specs.Build.{sum}
 
 -- The ruling that an answer states of the rows at the front of an array.
-abbrev pub held : Making → List ℤ → Ruling Made
-held (making.Made p k n s) buf = accept (record { table = table p k (take (n * 4) buf); states = s })
-held (making.Refused r) buf = refuse (number r) (detail r)
+abbrev pub held : Result Heading Refusal → List ℤ → Ruling Made
+held (Ok h) buf = accept (record { table = table h.prod0 h.k (take (h.rows * 4) buf); states = h.states })
+held (Err r) buf = refuse (number r) (detail r)
 
 -- Of a table that was made: at most 1,023 rows, and a prod0 that an i32 holds.
-abbrev pub Few : Making → Type 0
-Few (making.Made p k n s) = (n ≤ 1023) × (mag p < 2 ^ 31)
-Few (making.Refused r) = Unit
+abbrev pub Few : Result Heading Refusal → Type 0
+Few (Ok h) = (h.rows ≤ 1023) × (mag h.prod0 < 2 ^ 31)
+Few (Err r) = Unit
 
 -- The answer and the array hold what the ruling says.
-pub record Holds (ruling : Ruling Made) (answer : Making) (buf : List ℤ) : Type 0 where
+pub record Holds (ruling : Ruling Made) (answer : Result Heading Refusal) (buf : List ℤ) : Type 0 where
   pub is : held answer buf ≡ ruling
   pub few : Few answer
 
@@ -28,7 +28,7 @@ pub record Room (buf work : List ℤ) : Type 0 where
   pub large : length work ≡ 16384
 
 -- An answer whose rows stand in a, with an array b for the next list.
-pub record Ready (answer : Making) (a b work : List ℤ) : Type 0 where
+pub record Ready (answer : Result Heading Refusal) (a b work : List ℤ) : Type 0 where
   pub few : Few answer
   pub first : Room a work
   pub second : 4092 ≤ length b

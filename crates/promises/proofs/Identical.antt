@@ -53,14 +53,14 @@ answer_of : {A : Type 0} → Ruling A → Result A Refusal
 answer_of (accept a) = Ok a
 answer_of (refuse n d) = Err (refusal_of n d)
 
+answer_back : {A : Type 0} (a : Result A Refusal) → answer_of (stated a) ≡ a
+unfolding answer_of
+answer_back (Ok x) = refl
+answer_back (Err r) = ap Err (refusal_back r)
+
 -- an answer is told by what it states
 pub one_answer : {A : Type 0} (a b : Result A Refusal) → stated a ≡ stated b → a ≡ b
-unfolding answer_of
-one_answer = determined stated answer_of back
-  where
-    back : (a : Result _ Refusal) → answer_of (stated a) ≡ a
-    back (Ok x) = refl
-    back (Err r) = ap Err (refusal_back r)
+one_answer {A} = determined stated answer_of (answer_back {A = A})
 
 pub one_making : (a b : Result Heading Refusal) → stated a ≡ stated b → a ≡ b
 one_making = one_answer

@@ -3,21 +3,20 @@
 use mathlib.Core.Path.{◌≡◌, sym, ap, ◌∙◌}
 use mathlib.Core.Bool.{Bool, true, false, not, ◌&&◌}
 use mathlib.Core.List.{List, [], ◌∷◌}
+use mathlib.Core.Option.{Option}
 use Prim.Native.Nat.{ℕ, ◌+◌, ◌*◌, ◌%◌, ◌<◌}
 use native.Mathlib.Omega.{arith}
-use borrow.Author.Tests.{eq-eqb, ne_eqb}
 use lib.IntN.{ℤ}
 use Rattle.paper.specs.declared.Mode.{Mode}
 use Rattle.paper.specs.Rows.{Table, rows_in}
 use Rattle.paper.specs.Checks.{same_production}
 use Rattle.paper.specs.Shrink.{rows_of, redirect, same_rows}
-use Rattle.rows.specs.Places.{row_at, rest, code, uncoded}
-use Rattle.ruled.proofs.Splits.{code_same}
+use Rattle.rows.specs.Places.{row_at, rest, code}
+use Rattle.laws.proofs.Productions.{same_production_eq}
 use Rattle.merging.specs.Marks.{compared}
 use Rattle.shrink_alike.specs.Index.{leaves}
 use Rattle.shrink_alike.specs.Faces.{coded, counted, like, hash, sign, same_row, rows_alike, production_at}
 use Rattle.shrink_alike.proofs.Begins.{Standing, Walk, stand_end, stand_row}
-use Rattle.rows.proofs.Codes.{uncoded_code}
 
 -- a number stays below 65,521
 pub hash_small : (h : ℕ) (os : List (ℕ × ℕ)) → h < 65521 → hash h os < 65521
@@ -84,53 +83,42 @@ module _ (ns : List ℤ) (mark : ℕ → ℕ) where
 
 -- ---- states
 
-module _ (mode : Mode) (p0 : ℕ) (ns : List ℤ) (mark : ℕ → ℕ) where
+module _ (mode : Mode) (p : Option ℕ) (ns : List ℤ) (mark : ℕ → ℕ) where
   abbrev t : Table
-  t = coded p0 ns
+  t = coded p ns
 
-  counted_yes : (s x : ℕ) → x ≡ code (production_at t s) → compared mode (uncoded x) ≡ true
+  counted_yes : (s : ℕ) → compared mode (production_at t s) ≡ true
       → counted mode t mark s ≡ redirect mark (rows_of (rows_in ns) s)
   unfolding counted
-  counted_yes s x e c =
-      let q : uncoded x ≡ production_at t s = ap uncoded e ∙ uncoded_code (production_at t s) in
-      rw (← q, c)
+  counted_yes s c = rw c
 
-  counted_no : (s x : ℕ) → x ≡ code (production_at t s) → compared mode (uncoded x) ≡ false
-      → counted mode t mark s ≡ []
+  counted_no : (s : ℕ) → compared mode (production_at t s) ≡ false → counted mode t mark s ≡ []
   unfolding counted
-  counted_no s x e c =
-      let q : uncoded x ≡ production_at t s = ap uncoded e ∙ uncoded_code (production_at t s) in
-      rw (← q, c)
+  counted_no s c = rw c
 
-  module _ (s x : ℕ) (e : x ≡ code (production_at t s)) where
-    pub sign_rows : compared mode (uncoded x) ≡ true → (r : ℕ)
-        → r ≡ hash (x % 65521) (redirect mark (rows_of (rows_in ns) s)) → r ≡ sign mode t mark s
+  module _ (s : ℕ) (x : Option ℕ) (e : x ≡ production_at t s) where
+    pub sign_rows : compared mode x ≡ true
+        → hash (code x % 65521) (redirect mark (rows_of (rows_in ns) s)) ≡ sign mode t mark s
     unfolding sign
-    sign_rows c r h = h ∙ rw (counted_yes s x e c, e)
+    sign_rows c = rw e (rw (counted_yes s (rw e at c)))
 
-    pub sign_alone : compared mode (uncoded x) ≡ false → x % 65521 ≡ sign mode t mark s
+    pub sign_alone : compared mode x ≡ false → code x % 65521 ≡ sign mode t mark s
     unfolding sign hash
-    sign_alone c = rw (counted_no s x e c, e)
+    sign_alone c = rw e (rw (counted_no s (rw e at c)))
 
-  module _ (a b x y : ℕ) (e : x ≡ code (production_at t a)) (f : y ≡ code (production_at t b)) where
-    pub like_not : (x ≡ y → ⊥) → false ≡ like mode t mark a b
+  module _ (a b : ℕ) where
+    pub like_not : same_production (production_at t a) (production_at t b) ≡ false → false ≡ like mode t mark a b
     unfolding like
-    like_not d =
-        let q : same_production (production_at t a) (production_at t b) ≡ false =
-        sym (code_same (production_at t a) (production_at t b))
-        ∙ ne_eqb (code (production_at t a)) (code (production_at t b)) (λ z. d (e ∙ z ∙ sym f)) in
-        rw q
+    like_not d = rw d
 
-    module _ (g : x ≡ y) where
-      one : same_production (production_at t a) (production_at t b) ≡ true
-      one =
-          sym (code_same (production_at t a) (production_at t b))
-          ∙ eq-eqb (code (production_at t a)) (code (production_at t b)) (sym e ∙ g ∙ f)
+    module _ (g : same_production (production_at t a) (production_at t b) ≡ true) where
+      one : production_at t a ≡ production_at t b
+      one = same_production_eq (production_at t a) (production_at t b) g
 
-      pub like_cut : compared mode (uncoded x) ≡ false → true ≡ like mode t mark a b
+      pub like_cut : compared mode (production_at t a) ≡ false → true ≡ like mode t mark a b
       unfolding like same_rows
-      like_cut c = rw (one, counted_no a x e c, counted_no b x (g ∙ f) c)
+      like_cut c = rw (g, counted_no a c, counted_no b (rw one at c))
 
-      pub like_rows : compared mode (uncoded x) ≡ true → rows_alike ns mark a b ≡ like mode t mark a b
+      pub like_rows : compared mode (production_at t a) ≡ true → rows_alike ns mark a b ≡ like mode t mark a b
       unfolding like
-      like_rows c = rw (one, counted_yes a x e c, counted_yes b x (g ∙ f) c)
+      like_rows c = rw (g, counted_yes a c, counted_yes b (rw one at c))

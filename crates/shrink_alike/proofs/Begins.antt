@@ -1,12 +1,12 @@
 -- Where a state's rows begin and end in a row slice, and the rows of a state from a place on.
 -- Assumes, where it says so, rows that passed 1 to 3.
 use mathlib.Core.Path.{◌≡◌, refl, sym, ap, ◌∙◌}
-use mathlib.Core.Bool.{Bool, true, false, cond}
+use mathlib.Core.Bool.{Bool, true, false, cond, false≢true}
 use mathlib.Core.List.{List, [], ◌∷◌}
 use Prim.Native.Nat.{ℕ, zero, suc, ◌+◌, ◌-◌, ◌*◌, ◌/◌, ◌<◌, ◌≤◌}
 use native.Mathlib.Omega.{arith}
 use native.Mathlib.Numerals.{add-one}
-use borrow.Author.Tests.{eq-eqb, ne_eqb, eqb-true, lt-ltb, ltb-true}
+use borrow.Author.Tests.{eq-eqb, ne_eqb, eqb-true, lt-ltb, le-ltb, ltb-true}
 use lib.Dec.{eqb, ltb}
 use lib.ListN.{length, set, get_or, replicate, length-replicate, get_or-replicate}
 use lib.IntN.{ℤ}
@@ -14,7 +14,7 @@ use Rattle.paper.specs.Rows.{Row, rows_in}
 use Rattle.paper.specs.Shrink.{rows_of}
 use Rattle.rows.specs.Places.{row_at, rest}
 use Rattle.rows.specs.Passed.{Passed}
-use Rattle.rows.proofs.Rest.{rest_cons, rest_end, both}
+use Rattle.rows.proofs.Rest.{rest_cons, rest_end, both, by_test}
 use Rattle.rows.proofs.Keys.{compared}
 use Rattle.rows.proofs.Passing.{keys_rise, fit_at}
 use Rattle.counts.specs.Arrays.{Holds}
@@ -92,11 +92,20 @@ leaves_yes ns s i e =
     let h = both (ltb i (length ns / 4)) (eqb (row_at ns i).from s) e in
     (ltb-true _ _ h.0, eqb-true _ _ h.1)
 
+-- row i is there, and its state is s, is another; it is not there
+pub leaves_at : (ns : List ℤ) (s i : ℕ) → i < length ns / 4 → (row_at ns i).from ≡ s → leaves ns s i ≡ true
+leaves_at ns s i l q = rw (lt-ltb i (length ns / 4) l) (eq-eqb _ _ q)
+
+pub leaves_other : (ns : List ℤ) (s i : ℕ) → ((row_at ns i).from ≡ s → ⊥) → leaves ns s i ≡ false
+leaves_other ns s i d = by_test (ltb i (length ns / 4))
+    (λ e. rw e (ne_eqb _ _ d))
+    (λ e. rw e)
+
+pub leaves_past : (ns : List ℤ) (s i : ℕ) → length ns / 4 ≤ i → leaves ns s i ≡ false
+leaves_past ns s i l = rw (le-ltb i (length ns / 4) l)
+
 leaves_no : (ns : List ℤ) (s i : ℕ) → leaves ns s i ≡ false → i < length ns / 4 → (row_at ns i).from ≡ s → ⊥
-leaves_no ns s i e l q =
-    let t : leaves ns s i ≡ true = rw (lt-ltb i (length ns / 4) l) (eq-eqb _ _ q) in
-    let z : ◌≡◌ {A = ℕ} 0 1 = let f : true ≡ false = sym t ∙ e in cc in
-    omega arith
+leaves_no ns s i e l q = false≢true (sym e ∙ leaves_at ns s i l q)
 
 -- no row of s from i on
 rows_none : (ns : List ℤ) (s d i : ℕ) → i + d ≡ length ns / 4
@@ -152,10 +161,9 @@ pub record Walk (ns : List ℤ) (s i : ℕ) : Type 0 where
   pub stands : Standing ns s i
   pub whole : rows_of (rest ns i) s ≡ rows_of (rows_in ns) s
 
-pub walk_begins : {ns : List ℤ} {first : List ℕ} → Begun ns first → (s a : ℕ) → s < 1024 → a ≡ get_or first s 0
-    → Walk ns s a
-walk_begins {ns} {first} b s a l e =
-    let q : a ≡ from_first 0 (rest ns 0) s = e ∙ b.starts.held s l in
+pub walk_begins : {ns : List ℤ} {first : List ℕ} → Begun ns first → (s : ℕ) → s < 1024 → Walk ns s (get_or first s 0)
+walk_begins {ns} {first} b s l =
+    let q : get_or first s 0 ≡ from_first 0 (rest ns 0) s = b.starts.held s l in
     let r = begins ns s (length ns / 4) 0 (omega arith) in
     rw q (record {
       stands = record { within = r.0; ahead = λ j x y z. r.1 (omega arith) };

@@ -5,12 +5,12 @@ use Rattle.paper.specs.declared.Mode.{Mode}
 use Rattle.paper.specs.Rows.{Table, rows_in}
 use Rattle.paper.specs.Checks.{same_production}
 use Rattle.paper.specs.Shrink.{production_of, rows_of, redirect, same_rows}
-use Rattle.rows.specs.Places.{code, uncoded, row_at}
+use Rattle.rows.specs.Places.{code, row_at}
 use Rattle.merging.specs.Marks.{compared}
 
--- The table of a code for prod0 and the numbers of a row slice.
-abbrev pub coded : ℕ → List ℤ → Table
-coded p ns = record { prod0 = uncoded p; k = 0; rows = rows_in ns }
+-- The table of a prod0 and the numbers of a row slice.
+abbrev pub coded : Option ℕ → List ℤ → Table
+coded p ns = record { prod0 = p; k = 0; rows = rows_in ns }
 
 -- The marks that an array holds.
 abbrev pub mark_in : List ℕ → ℕ → ℕ

@@ -24,3 +24,7 @@ pub record Begun (ns : List ℤ) (first : List ℕ) : Type 0 where
 -- And the first row into each state.
 abbrev pub Indexed : List ℤ → List ℕ → List ℕ → Type 0
 Indexed ns into first = Begun ns first × Marked ns into
+
+-- The first row into each state, and the first from each.
+abbrev pub Starts : List ℤ → List ℕ → List ℕ → Type 0
+Starts ns into first = Marked ns into × Holds (from_first 0 (rows_in ns)) first

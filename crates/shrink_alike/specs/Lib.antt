@@ -1,2 +1,4 @@
 pub mod Index
+pub mod States
 pub mod Faces
+pub mod Tables

@@ -1,4 +1,3 @@
-pub mod Entered
 pub mod Settling
 pub mod Pass
 pub mod Marking

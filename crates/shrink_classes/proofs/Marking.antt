@@ -11,7 +11,8 @@ use Rattle.rows.proofs.Rest.{by_test}
 use Rattle.merging.specs.Marks.{compared, source_of, Alike, Marks}
 use Rattle.merging.proofs.OnePass.{source_is_mark}
 use Rattle.shrink_alike.specs.Faces.{mark_in, production_at, counted}
-use Rattle.shrink_classes.specs.Classes.{State, Like, Settled, Classes}
+use Rattle.shrink_alike.specs.States.{State}
+use Rattle.shrink_classes.specs.Classes.{Like, Settled, Classes}
 use Rattle.shrink_classes.proofs.Settling.{like_sym}
 
 module _ (mode : Mode) (t : Table) (mark : ℕ → ℕ) where

@@ -22,12 +22,12 @@ use Rattle.merging.proofs.States.{rows_of_in, rows_of_state}
 use Rattle.merging.proofs.Ruled.{rows_climb}
 use Rattle.shrink_alike.specs.Faces.{mark_in, production_at, counted, like, hash, sign}
 use Rattle.shrink_slots.specs.Slots.{Open, Stops, Stands}
-use Rattle.shrink_classes.specs.Classes.{State, Topped, Like, Settled, From, Classed, Chosen, Classes}
+use Rattle.shrink_alike.specs.States.{State, Topped}
+use Rattle.shrink_classes.specs.Classes.{Like, Settled, From, Classed, Chosen, Classes}
 use Rattle.shrink_alike.proofs.Alike.{hash_small}
 use Rattle.shrink_slots.proofs.Slotted.{
   empty_all,
   empty_put,
-  empty_some,
   stop_inside,
   stop_like,
   stop_unlike,
@@ -250,10 +250,9 @@ module _ (mode : Mode) (t : Table) where
   pub pass_open : (top : ℕ) → Topped t.rows top → (slots class : List ℕ) (s : ℕ)
       → Classed mode t slots class (s + 1) → Open slots
   pass_open top tops slots class s K = record {
+    sized = K.sized;
     small = λ i l d.
         let k = K.holders i l d in
         omega (arith, tops.few, tops.all (get_or slots i 0) k.0.1);
-    room =
-        let (i, l, z) = empty_some slots (omega (arith, K.room)) in
-        (i, omega (arith, K.sized), z);
+    room = omega (arith, K.room);
   }

@@ -1,26 +1,12 @@
 -- States that have their marks: each leads to one that is kept and is like it, and no two that are kept are alike.
-use Rattle.std.specs.Prelude.{◌≡◌, Bool, true, false, ℕ, ◌≤◌, ◌<◌, length, get_or, set}
+use Rattle.std.specs.Prelude.{◌≡◌, ℕ, ◌≤◌, ◌<◌, length, get_or, set}
 use mathlib.Core.List.{List, Memᴰ}
 use Rattle.paper.specs.declared.Mode.{Mode}
-use Rattle.paper.specs.Rows.{Row, Table, states}
+use Rattle.paper.specs.Rows.{Table}
 use Rattle.paper.specs.Shrink.{rows_of}
+use Rattle.shrink_alike.specs.States.{State}
 use Rattle.shrink_alike.specs.Faces.{mark_in, production_at, counted, like, sign}
 use Rattle.shrink_slots.specs.Slots.{empty_in, Stops, Stands}
-
--- A test tells whether A holds.
-pub record Tells (A : Type 0) (r : Bool) : Type 0 where
-  pub yes : r ≡ true → A
-  pub no : r ≡ false → A → ⊥
-
--- s is a state of the table.
-abbrev pub State : Table → ℕ → Type 0
-State t s = Memᴰ s (states t.rows)
-
--- No state is at top or above, and 0 is below.
-pub record Topped (rs : List Row) (top : ℕ) : Type 0 where
-  pub some : 1 ≤ top
-  pub few : top ≤ 1024
-  pub all : (s : ℕ) → Memᴰ s (states rs) → s < top
 
 -- Equal productions, and equal rows where they count.
 pub record Like (mode : Mode) (t : Table) (mark : ℕ → ℕ) (a b : ℕ) : Type 0 where

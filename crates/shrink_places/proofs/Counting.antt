@@ -21,8 +21,8 @@ use Rattle.merging.proofs.Ends.{Lowest, lowest, lowest_is, in_heads, heads_in, h
 use Rattle.merging.proofs.States.{states_ascend}
 use Rattle.merging.proofs.Places.{place_low, place_lt, place_zero}
 use Rattle.merging.proofs.Loops.{place_next, place_skip, place_all}
+use Rattle.shrink_alike.specs.States.{State, Topped, Tells}
 use Rattle.shrink_alike.specs.Faces.{mark_in}
-use Rattle.shrink_classes.specs.Classes.{State, Topped, Tells}
 use Rattle.shrink_places.specs.Numbers.{Named, Placing, Placed}
 
 module _ (t : Table) (class : List ℕ) where
@@ -202,14 +202,4 @@ pub no_head : (t : Table) (class : List ℕ) (s : ℕ) → (State t s → ⊥) �
 no_head t class s dead = record {
   yes = λ f. absurd (false≢true f);
   no = λ f i. dead (head_state t class s i);
-}
-
-pub place_held : (number : List ℕ) (h m x : ℕ) → x ≡ get_or number h 0 → (x ≡ 65535 → ⊥) → Placing number number h m m
-place_held number h m x e d = record { fresh = λ f. absurd (d (e ∙ f)); held = λ _. (refl, refl) }
-
-pub place_fresh : (number : List ℕ) (h g m x : ℕ) → g ≡ h → x ≡ get_or number g 0 → x ≡ 65535
-    → Placing number (set number g m) h m (m + 1)
-place_fresh number h g m x q e d = record {
-  fresh = λ f. (ap (λ (z : ℕ). set number z m) q, refl);
-  held = λ f. absurd (f (ap (λ (z : ℕ). get_or number z 0) (sym q) ∙ sym e ∙ d));
 }

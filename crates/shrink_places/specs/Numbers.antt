@@ -2,8 +2,8 @@
 use Rattle.std.specs.Prelude.{◌≡◌, List, ℕ, ◌+◌, ◌<◌, length, get_or, set}
 use Rattle.paper.specs.Rows.{Table}
 use Rattle.merging.specs.Marks.{source_of, head_of, heads_of, place_among}
+use Rattle.shrink_alike.specs.States.{State}
 use Rattle.shrink_alike.specs.Faces.{mark_in}
-use Rattle.shrink_classes.specs.Classes.{State}
 
 -- The mark of a state is the highest state of its class, below 1,024.
 pub record Named (t : Table) (class : List ℕ) : Type 0 where

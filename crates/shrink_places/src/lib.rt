@@ -2,24 +2,21 @@
 #![tactic(auto)]
 
 ghost use Rattle.std.specs.Prelude.{◌≡◌, ◌<◌, ◌≤◌, length};
-ghost use Rattle.paper.specs.Rows.{rows_in};
-ghost use Rattle.ruled.specs.Into.{Marked};
+ghost use mathlib.Core.Option.{none};
 ghost use Rattle.counts.specs.Arrays.{Holds};
 ghost use Rattle.merging.specs.Marks.{heads_of};
 ghost use Rattle.shrink_alike.specs.Faces.{coded, mark_in};
-ghost use Rattle.shrink_classes.specs.Classes.{Topped};
 ghost use Rattle.shrink_places.specs.Numbers.{Named, Placing, Placed};
 
-use shrink_alike::index;
-use shrink_classes::classes;
+use shrink_alike::faces::{Faces, NO_STATE};
 
 // The mark of s gets the number m if it has none; the next number.
 fn place(class: &[u16; 1024], number: &mut [u16; 1024], s: usize, m: usize) -> usize
     requires { (s < 1024) × (mark_in class.now s < 1024) × (m ≤ 1024) }
     ensures { Placing number.old number.new (mark_in class.now s) m result }
 {
-    let h = index::at(class, s);
-    if index::at(number, h) != 65535 {
+    let h = class[s] as usize;
+    if number[h] != NO_STATE {
         return m;
     }
     number[h] = m as u16;
@@ -27,25 +24,15 @@ fn place(class: &[u16; 1024], number: &mut [u16; 1024], s: usize, m: usize) -> u
 }
 
 // Numbers the marks, upward; how many there are.
-pub fn places(
-    rows: &[i32],
-    into: &[u16; 1024],
-    class: &[u16; 1024],
-    top: usize,
-    number: &mut [u16; 1024],
-) -> usize
-    requires { Marked rows.now into.now × Topped (rows_in rows.now) top
-        × Named (coded 0 rows.now) class.now × Holds (λ s. 65535) number.old }
-    ensures { Placed (coded 0 rows.now) class.now number.new
-        × (result ≡ length (heads_of (mark_in class.now) (coded 0 rows.now))) }
+pub fn places(faces: &Faces, class: &[u16; 1024], number: &mut [u16; 1024]) -> usize
+    requires { Named (coded none faces.now.rows.numbers.now) class.now × Holds (λ s. 65535) number.old }
+    ensures { Placed (coded none faces.now.rows.numbers.now) class.now number.new
+        × (result ≡ length (heads_of (mark_in class.now) (coded none faces.now.rows.numbers.now))) }
 {
     let mut m = 0;
-    let mut s = 0;
-    while s < top {
-        let u = s;
-        s += 1;
-        if classes::is_state(rows, into, u) {
-            m = place(class, number, u, m);
+    for s in 0..faces.top {
+        if faces.is_state(s) {
+            m = place(class, number, s, m);
         }
     }
     m

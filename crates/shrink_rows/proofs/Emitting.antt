@@ -34,7 +34,7 @@ use Rattle.merging.proofs.Loops.{
 }
 use Rattle.shrink_alike.specs.Index.{leaves}
 use Rattle.shrink_alike.specs.Faces.{coded, mark_in}
-use Rattle.shrink_classes.specs.Classes.{Topped}
+use Rattle.shrink_alike.specs.States.{Topped}
 use Rattle.shrink_places.specs.Numbers.{Named, Placed}
 use Rattle.shrink_rows.specs.Output.{new_row, new_pair, Written, Emitted, all_rows}
 use Rattle.shrink_alike.proofs.Begins.{Standing, Walk, stand_row, stand_end, leaves_yes}
@@ -78,12 +78,12 @@ module _ (ns : List ℤ) (class number : List ℕ) (h f : ℕ) where
     left = ap (map pair) w.whole;
   }
 
-  left_row : (i : ℕ) → Standing ns h i → leaves ns h i ≡ true → split (coded 0 ns) ≡ false
+  left_row : (i : ℕ) → Standing ns h i → leaves ns h i ≡ true → split (coded none ns) ≡ false
       → map pair (rows_of (rest ns i) h) ≡ new_row ns class number f i ∷ map pair (rows_of (rest ns (i + 1)) h)
   left_row i w e s =
       let r = row_at ns i in
       let q : production_of none (rows_in ns) r.to ≡ r.production =
-      row_production (coded 0 ns) s r (row_in ns i (leaves_yes ns h i e).0) in
+      row_production (coded none ns) s r (row_in ns i (leaves_yes ns h i e).0) in
       ap (map pair) (stand_row w e)
       ∙ ap (λ (p : Option ℕ). record {
         from = f;
@@ -93,7 +93,7 @@ module _ (ns : List ℤ) (class number : List ℕ) (h f : ℕ) where
       } ∷ map pair (rows_of (rest ns (i + 1)) h)) q
 
   module _ (old out : List ℤ) (at o i : ℕ) (k : Emitting old out at o i) (e : leaves ns h i ≡ true)
-      (s : split (coded 0 ns) ≡ false) where
+      (s : split (coded none ns) ≡ false) where
     -- there is room for the row
     pub emit_room : o < at + length (rows_of (rows_in ns) h)
     emit_room =
@@ -147,18 +147,18 @@ under_rises (x ∷ xs) s (asc_cons h a) = go (ltb x s) (under_rises xs s a)
 -- the rows of the heads below s
 abbrev pub rows_below : List ℤ → List ℕ → ℕ → List Row
 rows_below ns class s =
-    marked_rows (mark_in class) (coded 0 ns) (heads_of (mark_in class) (coded 0 ns))
-    (under (heads_of (mark_in class) (coded 0 ns)) s)
+    marked_rows (mark_in class) (coded none ns) (heads_of (mark_in class) (coded none ns))
+    (under (heads_of (mark_in class) (coded none ns)) s)
 
-module _ (ns : List ℤ) (class number : List ℕ) (nm : Named (coded 0 ns) class) where
+module _ (ns : List ℤ) (class number : List ℕ) (nm : Named (coded none ns) class) where
   abbrev t : Table
-  t = coded 0 ns
+  t = coded none ns
 
   abbrev mark : ℕ → ℕ
   mark s = mark_in class s
 
   abbrev hs : List ℕ
-  hs = heads_of (mark_in class) (coded 0 ns)
+  hs = heads_of (mark_in class) (coded none ns)
 
   abbrev below : ℕ → List Row
   below s = rows_below ns class s
@@ -166,7 +166,7 @@ module _ (ns : List ℤ) (class number : List ℕ) (nm : Named (coded 0 ns) clas
   -- no more rows than there were
   rows_few : (s : ℕ) → length (below s) ≤ length ns / 4
   rows_few s =
-      let l = marked_length (mark_in class) (coded 0 ns) hs (under hs s) (under_rises hs s (heads_rise t class))
+      let l = marked_length (mark_in class) (coded none ns) hs (under hs s) (under_rises hs s (heads_rise t class))
       (λ x y i j e.
       let a = in_heads mark (states t.rows) (states t.rows) x (under_in hs s x i) in
       let b = in_heads mark (states t.rows) (states t.rows) y (under_in hs s y j) in
@@ -174,8 +174,8 @@ module _ (ns : List ℤ) (class number : List ℕ) (nm : Named (coded 0 ns) clas
       sym a.1 ∙ ap (lowest_of mark (states t.rows)) q ∙ b.1) in
       omega (arith, l, length_rows ns)
 
-  module _ (p : Placed (coded 0 ns) class number) (s m : ℕ) (i : In s (heads_of (mark_in class) (coded 0 ns)))
-      (e : m ≡ place_among (heads_of (mark_in class) (coded 0 ns)) s) where
+  module _ (p : Placed (coded none ns) class number) (s m : ℕ) (i : In s (heads_of (mark_in class) (coded none ns)))
+      (e : m ≡ place_among (heads_of (mark_in class) (coded none ns)) s) where
     pairs_rows : (os : List (ℕ × ℕ)) → ((o : ℕ × ℕ) → In o os → In o.1 (states (rows_in ns)))
         → map (new_pair (mark_in class) (rows_in ns) number m) os ≡ map (marked_row mark t hs s) os
     unfolding marked_row
@@ -213,18 +213,18 @@ module _ (ns : List ℤ) (class number : List ℕ) (nm : Named (coded 0 ns) clas
     heads_next old out new o r h v q w = subst (Written old new 0 r) (sym rows_head)
         (written_more v (subst (λ (x : ℕ). Emitted ns class number x m out new o r) q w))
 
-    pub heads_place : m + 1 ≡ place_among (heads_of (mark_in class) (coded 0 ns)) (s + 1)
+    pub heads_place : m + 1 ≡ place_among (heads_of (mark_in class) (coded none ns)) (s + 1)
     heads_place =
         add-one m ∙ ap suc e ∙ sym (place_next hs (heads_rise t class) s i) ∙ ap (place_among hs) (sym (add-one s))
 
   -- no head at s
-  module _ (s : ℕ) (off : In s (heads_of (mark_in class) (coded 0 ns)) → ⊥) where
+  module _ (s : ℕ) (off : In s (heads_of (mark_in class) (coded none ns)) → ⊥) where
     pub heads_skip : (old out : List ℤ) (o : ℕ) → Written old out 0 o (below s) → Written old out 0 o (below (s + 1))
     heads_skip old out o w = subst (Written old out 0 o)
         (sym (ap (λ (n : ℕ). below n) (add-one s) ∙ ap (marked_rows mark t hs) (under_skip hs s off))) w
 
-    pub place_past : (m : ℕ) → m ≡ place_among (heads_of (mark_in class) (coded 0 ns)) s
-        → m ≡ place_among (heads_of (mark_in class) (coded 0 ns)) (s + 1)
+    pub place_past : (m : ℕ) → m ≡ place_among (heads_of (mark_in class) (coded none ns)) s
+        → m ≡ place_among (heads_of (mark_in class) (coded none ns)) (s + 1)
     place_past m e = e ∙ sym (place_skip hs s off) ∙ ap (place_among hs) (sym (add-one s))
 
   pub heads_start : (old : List ℤ) → Written old old 0 0 (below 0)
@@ -233,7 +233,7 @@ module _ (ns : List ℤ) (class number : List ℕ) (nm : Named (coded 0 ns) clas
       (written_none old 0)
 
   pub heads_end : (top : ℕ) → Topped (rows_in ns) top → (old out : List ℤ) (o s : ℕ) → s ≡ top
-      → Written old out 0 o (below s) → Written old out 0 o (all_rows (mark_in class) (coded 0 ns))
+      → Written old out 0 o (below s) → Written old out 0 o (all_rows (mark_in class) (coded none ns))
   heads_end top tops old out o s e w = subst (Written old out 0 o)
       (ap (λ (n : ℕ). below n) e
       ∙ ap (marked_rows mark t hs) (under_all hs top (λ x i. tops.all x (head_state t class x i)))) w

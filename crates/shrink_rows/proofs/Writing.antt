@@ -1,6 +1,7 @@
 -- Rows written into an output: none, one, and some after others.
 -- Assumes room for them.
 use mathlib.Core.Path.{◌≡◌, refl, sym, ap, ◌∙◌}
+use mathlib.Core.Option.{Option}
 use mathlib.Core.List.{List, [], ◌∷◌, ◌++◌, append_assoc, append-nil}
 use Prim.Native.Nat.{ℕ, ◌+◌, ◌*◌, ◌≤◌}
 use native.Mathlib.Omega.{arith}
@@ -9,10 +10,9 @@ use lib.Seq.{take_at, drop_at, drop-drop, length-take-le}
 use lib.IntN.{ℤ, pos}
 use Rattle.laws.proofs.RowNumbers.{length_numbers, numbers_append}
 use Rattle.paper.specs.Rows.{Row, signed, numbers}
-use Rattle.rows.specs.Places.{code, uncoded, four}
+use Rattle.rows.specs.Places.{four}
 use Rattle.rows.proofs.Four.{four_is}
 use Rattle.shrink_rows.specs.Output.{Written}
-use Rattle.rows.proofs.Codes.{uncoded_code}
 
 pub written_none : (old : List ℤ) (at : ℕ) → Written old old at at []
 written_none old at = record {
@@ -41,13 +41,12 @@ written_one old new at r h e =
       sized = ap length e ∙ simp length-set;
     }
 
--- the same of a row whose production is given by its code
-pub written_row : (old new : List ℤ) (at : ℕ) (r : Row) (f t g c : ℕ) → at * 4 + 4 ≤ length old
-    → f ≡ r.from → t ≡ r.terminal → g ≡ r.to → c ≡ code r.production
-    → new ≡ four old (at * 4) (pos f) (pos t) (pos g) (signed (uncoded c)) → Written old new at (at + 1) (r ∷ [])
-written_row old new at r f t g c h e₁ e₂ e₃ e₄ e =
-    let q : signed (uncoded c) ≡ signed r.production = rw e₄ (ap signed (uncoded_code r.production)) in
-    written_one old new at r h (e ∙ (λ i. four old (at * 4) (pos (e₁ i)) (pos (e₂ i)) (pos (e₃ i)) (q i)))
+-- the same of a row whose numbers were read
+pub written_row : (old new : List ℤ) (at : ℕ) (r : Row) (f t g : ℕ) (p : Option ℕ) → at * 4 + 4 ≤ length old
+    → f ≡ r.from → t ≡ r.terminal → g ≡ r.to → p ≡ r.production
+    → new ≡ four old (at * 4) (pos f) (pos t) (pos g) (signed p) → Written old new at (at + 1) (r ∷ [])
+written_row old new at r f t g p h e₁ e₂ e₃ e₄ e = written_one old new at r h
+    (e ∙ (λ i. four old (at * 4) (pos (e₁ i)) (pos (e₂ i)) (pos (e₃ i)) (signed (e₄ i))))
 
 module _ {a b c : List ℤ} {at mid end : ℕ} {xs ys : List Row} (v : Written a b at mid xs) (w : Written b c mid end ys)
   where

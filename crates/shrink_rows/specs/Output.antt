@@ -1,13 +1,10 @@
 -- Rows written at the front of an output, and the shrunk table.
-use Rattle.std.specs.Prelude.{◌≡◌, List, ◌++◌, map, ℕ, ◌+◌, ◌*◌, ◌≤◌, length, get_or, take, drop, ℤ}
-use Rattle.std.proofs.Math.Option.{none}
+use Rattle.std.specs.Prelude.{◌≡◌, List, ◌++◌, map, ℕ, ◌+◌, ◌*◌, length, get_or, take, drop, ℤ}
+use Rattle.std.proofs.Math.Option.{Option, none}
 use Rattle.paper.specs.declared.Mode.{Mode}
-use Rattle.paper.specs.Rows.{Row, Table, numbers, rows_in, table}
-use Rattle.paper.specs.Checks.{ruled}
+use Rattle.paper.specs.Rows.{Row, Table, numbers, rows_in}
 use Rattle.paper.specs.Shrink.{production_of, rows_of}
 use Rattle.rows.specs.Places.{row_at}
-use Rattle.row_checks.specs.Verdicts.{Judges}
-use Rattle.row_checks.specs.declared.Verdict.TheVariants.{Pass}
 use Rattle.merging.specs.Marks.{heads_of, marked_rows}
 use Rattle.shrink_alike.specs.Faces.{mark_in, coded}
 use Rattle.shrink_classes.specs.Classes.{Classes}
@@ -48,16 +45,11 @@ all_rows mark t = marked_rows mark t (heads_of mark t) (heads_of mark t)
 
 -- The shrunk table of some marks is written: n rows, and s states.
 pub record Wrote (ns : List ℤ) (class : List ℕ) (old new : List ℤ) (n s : ℕ) : Type 0 where
-  pub rows : Written old new 0 n (all_rows (mark_in class) (coded 0 ns))
-  pub states : s ≡ length (heads_of (mark_in class) (coded 0 ns))
+  pub rows : Written old new 0 n (all_rows (mark_in class) (coded none ns))
+  pub states : s ≡ length (heads_of (mark_in class) (coded none ns))
 
 -- And the marks are those of shrinking.
-pub record Shrunk (mode : Mode) (p0 : ℕ) (ns old new : List ℤ) (n s : ℕ) : Type 0 where
+pub record Shrunk (mode : Mode) (p0 : Option ℕ) (ns old new : List ℤ) (n s : ℕ) : Type 0 where
   pub class : List ℕ
   pub classes : Classes mode (coded p0 ns) class
   pub wrote : Wrote ns class old new n s
-
--- A table that passed 1 to 6.
-pub record Sound (p : ℤ) (k : ℕ) (ns : List ℤ) : Type 0 where
-  pub checked : Judges (ruled (table p k ns)) Pass
-  pub few : length ns ≤ 16384

@@ -95,8 +95,8 @@ module _ {same : ℕ → ℕ → Bool} {slots : List ℕ} {s g d at : ℕ} (w : 
   -- an empty slot is still to come
   pub walk_near : Open slots → d + 1 < 1024
   walk_near o =
-      let (i, l, z) = o.room in
-      let (e, m, q) = slot_met g i l in
+      let (i, l, z) = empty_some slots o.room in
+      let (e, m, q) = slot_met g i (omega (arith, l, o.sized)) in
       let gone : e < d + 1 → ⊥ = λ k. passed_held same slots s (slot g e) (walk_past e k)
       (ap (λ (x : ℕ). get_or slots x 0) q ∙ z) in
       compared d e (λ k. omega arith) (λ k. absurd (gone (omega (arith, k)))) (λ k. absurd (gone (omega arith)))

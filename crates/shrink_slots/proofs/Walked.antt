@@ -1,17 +1,9 @@
 -- The slots that a walk meets: within 1,024 steps, every one, since a step is odd.
 -- Assumes nothing.
 use mathlib.Core.Path.{◌≡◌, sym, ap, ◌∙◌, subst}
-use Prim.Native.Nat.{ℕ, zero, suc, ◌+◌, ◌*◌, ◌/◌, ◌%◌, ◌^◌, ◌<◌, ◌≤◌}
+use Prim.Native.Nat.{ℕ, zero, suc, ◌+◌, ◌*◌, ◌/◌, ◌%◌, ◌^◌, ◌<◌}
 use native.Mathlib.Omega.{arith}
-use native.Mathlib.Nat.{
-  add-mul,
-  mul_comm,
-  mul-le-mul,
-  add-mul-div_right,
-  add-mul-mod_self_right,
-  mod-eq_of_lt,
-  pow-succ',
-}
+use native.Mathlib.Nat.{add-mul, mul_comm, add-mul-div_right, add-mul-mod_self_right, mod-eq_of_lt, pow-succ'}
 use lib.Arith.{mod-mul}
 use lib.Pow.{pow_pos}
 use Rattle.counts.proofs.Arrays.{by_equal}
@@ -20,13 +12,6 @@ use Rattle.shrink_slots.specs.Slots.{slot}
 pub slot_small : (g d : ℕ) → slot g d < 1024
 unfolding slot
 slot_small g d = omega arith
-
--- d steps are not long
-pub step_short : (g d : ℕ) → g < 65521 → d < 1024 → d * (g / 1024 * 2 + 1) ≤ 1024 * 128
-step_short g d l m =
-    let a : d ≤ 1024 = omega arith in
-    let b : g / 1024 * 2 + 1 ≤ 128 = omega arith in
-    mul-le-mul a b
 
 module _ (x w i : ℕ) where
   -- Some number of odd steps below n leads from x to i, but for multiples of n.

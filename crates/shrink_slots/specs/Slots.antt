@@ -1,5 +1,12 @@
 -- Slots that hold the kept states: each stands on the walk of its number, with no empty slot before it.
-use Rattle.std.specs.Prelude.{◌≡◌, Bool, true, false, cond, not, ◌&&◌, List, [], ◌∷◌, ℕ, suc, ◌+◌, ◌*◌, ◌/◌, ◌%◌, ◌<◌, eqb, get_or}
+use Rattle.std.specs.Prelude.{◌≡◌, Bool, true, false, cond, not, ◌&&◌, List, [], ◌∷◌, ℕ, suc, ◌+◌, ◌*◌, ◌/◌, ◌%◌, ◌<◌, ◌≤◌, eqb, length, get_or}
+use Rattle.shrink_alike.specs.declared.faces.Faces.{Faces}
+use Rattle.shrink_alike.specs.Faces.{mark_in, like}
+use Rattle.shrink_alike.specs.Tables.{table_of}
+
+-- Two states become one by the marks of an array.
+abbrev pub alike_in : Faces → List ℕ → ℕ → ℕ → Bool
+alike_in f class = like f.mode (table_of f) (mark_in class)
 
 -- The slot after d steps of the walk of the number g; a step is odd, so that the walk meets every slot.
 unfoldable pub slot : ℕ → ℕ → ℕ
@@ -10,10 +17,11 @@ unfoldable pub empty_in : List ℕ → ℕ
 empty_in [] = 0
 empty_in (x ∷ xs) = cond (eqb x 65535) (suc (empty_in xs)) (empty_in xs)
 
--- Each slot is empty or holds a state, and one is empty.
+-- Each of the 1,024 slots is empty or holds a state, and one is empty.
 pub record Open (slots : List ℕ) : Type 0 where
+  pub sized : length slots ≡ 1024
   pub small : (i : ℕ) → i < 1024 → (get_or slots i 0 ≡ 65535 → ⊥) → get_or slots i 0 < 1024
-  pub room : (i : ℕ) × (i < 1024) × (get_or slots i 0 ≡ 65535)
+  pub room : 1 ≤ empty_in slots
 
 -- A slot holds a state that is not like s.
 unfoldable pub passes : (ℕ → ℕ → Bool) → List ℕ → ℕ → ℕ → Bool

@@ -1,22 +1,12 @@
-use mathlib.Core.Path.{refl, sym, ◌∙◌}
-use native.Mathlib.Omega.{arith}
-use Rattle.build_checks.proofs.Totals.{long_here, long_next, long_end}
+use mathlib.Core.Path.{◌∙◌}
+use borrow.Author.Rules.{rules}
+use Rattle.std.proofs.lemmas.Iterator.{YieldsList-from_slice}
+use Rattle.std.proofs.lemmas.Iterator.Search.{any_from_yields_List}
+use Rattle.build_checks.proofs.Totals.{over, any_as}
 use Rattle.build_checks.proofs.long.Goals as goal
-
-pub loop-i-init : goal.loop-i-init
-loop-i-init c = (omega arith, refl)
-
-pub returns-then-lengths-i-gt16 : goal.returns-then-lengths-i-gt16
-returns-then-lengths-i-gt16 c =
-    let a = c.args in
-    sym (c.loop-i.invariant.1 ∙ long_here a.lengths.now c.loop-i.i (omega arith) c.if-lengths-i-gt16.true)
-
-pub loop-i-preserved : goal.loop-i-preserved
-loop-i-preserved c =
-    let a = c.args in
-    (omega arith, c.loop-i.invariant.1 ∙ long_next a.lengths.now c.loop-i.i (omega arith) c.if-lengths-i-gt16.false)
 
 pub returns : goal.returns
 returns c =
-    let a = c.args in
-    sym (c.loop-i.invariant.1 ∙ long_end a.lengths.now c.loop-i.i c.loop-i-test.false)
+    any_from_yields_List over _ _ c.any.result c.any.ensures.ran
+    (YieldsList-from_slice c.args.lengths.now c.iter.ensures.rest) (λ x b q k. search rules)
+    ∙ any_as over c.args.lengths.now

@@ -1,11 +1,8 @@
 use mathlib.Core.Path.{◌≡◌}
-use Prim.Native.Nat.{◌+◌, ◌-◌, ◌≤◌}
-use lib.ListN.{length, drop}
+use Prim.Native.Nat.{◌+◌}
+use lib.ListN.{drop}
 use Rattle.paper.specs.Build.{sum}
 use Rattle.build_checks.proofs.sums.Given as goal
 
-abbrev pub invariant-loop-i : goal.invariant-loop-i
-invariant-loop-i l = (l.i ≤ length l.lengths) × (sum l.lengths + l.left ≡ l.count + sum (drop l.i l.lengths))
-
-abbrev pub decreases-loop-i : goal.decreases-loop-i
-decreases-loop-i l = length l.lengths - l.i
+abbrev pub invariant-loop-n : goal.invariant-loop-n
+invariant-loop-n l = sum l.lengths + l.left ≡ l.count + sum (drop l.n-index l.lengths)

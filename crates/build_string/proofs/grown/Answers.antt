@@ -1,13 +1,15 @@
-use Rattle.grow_laws.specs.Held.{view}
+use mathlib.Core.Path.{refl}
+use native.Mathlib.Omega.{arith}
 use Rattle.build_string.proofs.Entered.{overflows, grows}
 use Rattle.build_string.proofs.grown.Goals as goal
 
 pub returns-then-n-ge1023 : goal.returns-then-n-ge1023
 returns-then-n-ge1023 c =
-    overflows (view c.args.buf.now c.args.lo) c.args.n c.args.state.0 c.args.token.0 c.args.i c.requires
-    c.if-n-ge1023.true
+    let a = c.args in
+    (refl, overflows a.rows.now a.state.0 a.token.0 a.i c.requires (omega arith))
 
 pub returns : goal.returns
 returns c =
-    grows (view c.args.buf.now c.args.lo) c.args.n c.args.state.0 c.args.token.0 c.args.i _ c.requires
-    c.add-low.ensures
+    let a = c.args in
+    rw c.count-n.ensures
+    (grows a.rows.now a.state.0 a.token.0 a.i c.add.new.self c.requires c.add.ensures.0 c.add.ensures.1)

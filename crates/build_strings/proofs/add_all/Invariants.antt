@@ -1,12 +1,7 @@
-use mathlib.Core.Path.{◌≡◌}
-use Prim.Native.Nat.{◌-◌}
-use lib.ListN.{length}
-use Rattle.grow_laws.specs.Held.{view}
+use Rattle.rows.specs.Places.{given}
 use Rattle.build_strings.proofs.Listed.{Listing}
 use Rattle.build_strings.proofs.add_all.Given as goal
 
-abbrev pub invariant-loop-i : goal.invariant-loop-i
-invariant-loop-i l = (length l.buf ≡ length l.initial.buf) × Listing l.production.0 l.tokens l.lengths (view l.buf l.l) l.rest l.n l.code l.k l.i
-
-abbrev pub decreases-loop-i : goal.decreases-loop-i
-decreases-loop-i l = length l.lengths - l.i
+abbrev pub invariant-loop-len : goal.invariant-loop-len
+invariant-loop-len l =
+    Listing l.production.0 l.list.tokens.now l.list.lengths.now l.rows l.rest (given l.head.prod0) l.head.k l.len-index

@@ -1,12 +1,10 @@
-use mathlib.Core.Path.{refl, ◌∙◌}
-use Rattle.rows.proofs.Signed.{same}
-use Rattle.grow_laws.proofs.Shifted.{stored, over_same}
+use mathlib.Core.Path.{◌∙◌}
+use borrow.Author.Rules.{rules}
+use Rattle.grow_laws.proofs.Shifted.{stored}
 use Rattle.grow_moves.proofs.put_row.Goals as goal
 
 pub returns : goal.returns
 returns c =
-    let a = c.args in
     c.put_four.ensures
-    ∙ stored a.buf.now a.i _ _ _ _ c.requires
-    ∙ over_same a.i refl (same a.w c.ranges.w) (same a.x c.ranges.x)
-    (same a.y c.ranges.y) (same a.z c.ranges.z)
+    ∙ stored c.args.buf.now c.args.i c.args.row c.requires (search rules) (search rules) (search rules) (search rules)
+    (search rules)

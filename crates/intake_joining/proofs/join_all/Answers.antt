@@ -8,7 +8,7 @@ use lib.IntN.{pos}
 use borrow.Author.Rules.{rules}
 use Rattle.rows.proofs.Signed.{back}
 use Rattle.paper.specs.Build.{sum}
-use Rattle.intake_lists.proofs.Lists.{lengths_there, tokens_there}
+use Rattle.intake_lists.proofs.NextList.{lengths_there, tokens_there}
 use Rattle.intake_lists.proofs.Joining.{joined_none, joined_next, joined_all}
 use Rattle.intake_joining.proofs.join_all.Goals as goal
 

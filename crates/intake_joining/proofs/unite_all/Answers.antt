@@ -7,7 +7,7 @@ use lib.Seq.{length-take-le}
 use lib.IntN.{pos}
 use Rattle.rows.proofs.Signed.{back}
 use Rattle.paper.specs.Build.{sum}
-use Rattle.intake_lists.proofs.Lists.{lengths_there, tokens_there}
+use Rattle.intake_lists.proofs.NextList.{lengths_there, tokens_there}
 use Rattle.intake_lists.proofs.Joining.{others_summed, all_joined}
 use borrow.Author.Rules.{rules}
 use Rattle.intake_joining.proofs.unite_all.Goals as goal

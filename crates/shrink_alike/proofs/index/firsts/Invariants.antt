@@ -1,12 +1,7 @@
-use Prim.Native.Nat.{◌/◌, ◌≤◌}
-use lib.ListN.{length}
 use Rattle.rows.specs.Places.{rest}
 use Rattle.counts.specs.Arrays.{Holds}
 use Rattle.shrink_alike.specs.Index.{from_first}
 use Rattle.shrink_alike.proofs.index.firsts.Given as goal
 
 abbrev pub invariant-loop-i : goal.invariant-loop-i
-invariant-loop-i l = (l.i ≤ length l.rows / 4) × Holds (from_first l.i (rest l.rows l.i)) l.first
-
-abbrev pub decreases-loop-i : goal.decreases-loop-i
-decreases-loop-i l = l.i
+invariant-loop-i l = Holds (from_first l.i (rest l.few.rows.numbers.now l.i)) l.first

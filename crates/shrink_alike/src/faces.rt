@@ -1,0 +1,99 @@
+// What shrinking looks up of a table, and what it sees of one state.
+ghost use Rattle.std.specs.Prelude.{◌≡◌, false, ℕ, ◌/◌, ◌<◌, ◌≤◌, length, get_or};
+ghost use mathlib.Core.Option.{none};
+ghost use Rattle.paper.specs.Rows.{rows_in, accepting};
+ghost use Rattle.paper.specs.Checks.{shape, split};
+ghost use Rattle.rows.specs.Places.{row_at, given};
+ghost use Rattle.shrink_alike.specs.Index.{leaves, Indexed, Starts};
+ghost use Rattle.shrink_alike.specs.States.{State, Tells, Topped};
+ghost use Rattle.shrink_alike.specs.Faces.{coded, mark_in, production_at};
+
+use paper::{Mode, Production};
+use rows::{Rows, numbers};
+use ruled::Ruled;
+
+// No state, in an array over the states: an Option there would take twice the room, and the arrays of a call are fixed.
+pub const NO_STATE: u16 = 65535;
+
+// A table that passed 1 to 6, with the first row into each state (its number plus one; 0 where there is none), the
+// first row from each, and one more than the highest state.
+#[derive(Clone, Copy)]
+pub struct Faces<'a> {
+    pub mode: Mode,
+    pub prod0: Option<Production>,
+    pub rows: Rows<'a>,
+    pub into: &'a [u16; 1024],
+    pub first: &'a [u16; 1024],
+    pub top: usize,
+    ghost indexed: { Indexed rows.numbers.now into.now first.now },
+    ghost topped: { Topped (rows_in rows.numbers.now) top },
+    ghost climbs: { shape (coded none rows.numbers.now) ≡ false },
+    ghost whole: { split (coded none rows.numbers.now) ≡ false },
+}
+
+// One more than the last place that holds a number other than 0, or 1.
+fn top(into: &[u16; 1024]) -> usize
+    ensures within { (1 ≤ result) × (result ≤ 1024) }
+    ensures past { (s : ℕ) → result ≤ s → s < 1024 → get_or into.now s 0 ≡ 0 }
+{
+    match into.iter().rposition(|j| *j != 0) {
+        Some(s) => s + 1,
+        None => 1,
+    }
+}
+
+impl<'a> Faces<'a> {
+    ghost use Rattle.shrink_alike.specs.Tables.{table_of};
+
+    // Of a table, by the first rows into each state and from each.
+    pub fn new(mode: Mode, lent: Ruled<'a>, into: &'a [u16; 1024], first: &'a [u16; 1024]) -> Self
+        requires { Starts lent.table.rows.now into.now first.now }
+        ensures { (result.mode ≡ mode) × (given result.prod0 ≡ accepting lent.entry.table.prod0)
+            × (result.rows.numbers.now ≡ lent.entry.table.rows.now) }
+    {
+        let few = lent.few_rows();
+        Faces {
+            mode,
+            prod0: numbers::accepting(lent.table.prod0),
+            rows: few.rows,
+            into,
+            first,
+            top: top(into),
+        }
+    }
+
+    // A state's production: that of the first row into it, prod0 where there is none.
+    pub fn production(&self, s: usize) -> Option<Production>
+        requires { s < 1024 }
+        ensures { given result ≡ production_at (table_of self.now) s }
+    {
+        let j = self.into[s] as usize;
+        if j == 0 {
+            return self.prod0;
+        }
+        self.rows.production(j - 1)
+    }
+
+    // s is a state: 0, or one that a row leads into.
+    pub fn is_state(&self, s: usize) -> bool
+        requires { s < 1024 }
+        ensures { Tells (State (table_of self.now) s) result }
+    {
+        s == 0 || self.into[s] != 0
+    }
+
+    // Row i is there, and leaves the state s.
+    pub fn leaves(&self, s: usize, i: usize) -> bool
+        ensures { result ≡ leaves self.now.rows.numbers.now s i }
+    {
+        i < self.rows.count() && self.rows.from(i) == s
+    }
+
+    // The mark of the state that row i leads to.
+    pub fn to_mark(&self, class: &[u16; 1024], i: usize) -> usize
+        requires { i < length self.now.rows.numbers.now / 4 }
+        ensures { (result ≡ mark_in class.now (row_at self.now.rows.numbers.now i).to) × (result ≤ 65535) }
+    {
+        class[self.rows.to(i)] as usize
+    }
+}
