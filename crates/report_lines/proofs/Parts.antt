@@ -9,7 +9,7 @@ use Rattle.paper.specs.Words.{bytes}
 use Rattle.paper.specs.Answers.{number, detail, refuse}
 use Rattle.paper.specs.Text.{digits, decimal}
 use Rattle.paper.specs.Tabrep.{line, printed}
-use Rattle.report_lines.specs.declared.Sizes.{Sizes}
+use Rattle.report_lines.specs.declared.sizes.Sizes.{Sizes}
 use Rattle.report_lines.specs.Printed.{labelled, three}
 
 pub line_parts : (w : List ℕ) (a b : ℕ) →

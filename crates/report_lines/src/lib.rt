@@ -6,21 +6,17 @@ ghost use Rattle.paper.specs.Answers.{number, detail, refuse};
 ghost use Rattle.paper.specs.Tabrep.{printed};
 ghost use Rattle.text_laws.specs.Put.{Puts};
 ghost use Rattle.text_out.specs.Added.{Adds};
-ghost use Rattle.report_lines.specs.Printed.{labelled, three, Small};
+ghost use Rattle.report_lines.specs.Printed.{labelled, three};
 
+pub mod sizes;
+
+use crate::sizes::{AllSizes, Sizes};
 use paper::Refusal;
 use text_out::writing::Writer;
 
-// How many states and rows a table has.
-#[derive(Clone, Copy, Debug, PartialEq, Eq)]
-pub struct Sizes {
-    pub states: usize,
-    pub rows: usize,
-}
-
 // A line of a label, which ends in a space, and two numbers.
 fn put_line(writer: &mut Writer, label: &[u8], sizes: Sizes)
-    requires { (writer.old.at + (length label.now + 12) ≤ length writer.old.out.now) × Small sizes }
+    requires { writer.old.at + (length label.now + 12) ≤ length writer.old.out.now }
     ensures { Adds writer.old writer.new (length label.now + 12) (labelled label.now sizes.states sizes.rows) }
 {
     writer.put_field(label, sizes.states);
@@ -29,14 +25,14 @@ fn put_line(writer: &mut Writer, label: &[u8], sizes: Sizes)
 }
 
 // The three lines.
-pub fn put_lines(out: &mut [u8], table: Sizes, archive: Sizes, intake: Sizes) -> usize
-    requires { (54 ≤ length out.old) × Small table × Small archive × Small intake }
-    ensures { Puts out.old 0 54 (three table archive intake) out.new result }
+pub fn put_lines(out: &mut [u8], sizes: AllSizes) -> usize
+    requires { 54 ≤ length out.old }
+    ensures { Puts out.old 0 54 (three sizes.table sizes.archive sizes.intake) out.new result }
 {
     let mut writer = Writer { out, at: 0 };
-    put_line(&mut writer, b"in ", table);
-    put_line(&mut writer, b"archive ", archive);
-    put_line(&mut writer, b"intake ", intake);
+    put_line(&mut writer, b"in ", sizes.table);
+    put_line(&mut writer, b"archive ", sizes.archive);
+    put_line(&mut writer, b"intake ", sizes.intake);
     writer.at
 }
 
