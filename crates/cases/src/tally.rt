@@ -10,7 +10,7 @@ pub struct Outcome {
     pub right: bool,
 }
 
-// Reads the next case to the front of bytes: none at the end of the input, or where a case is cut short or too long.
+// Reads the next case to the front of bytes: none at the end of the list, or where a case is cut short or too long.
 pub fn next<'a>(input: &mut impl Read, bytes: &'a mut [u8]) -> io::Result<Option<&'a [u8]>> {
     let Some(count) = count(input)? else {
         return Ok(None);
@@ -25,14 +25,16 @@ pub fn next<'a>(input: &mut impl Read, bytes: &'a mut [u8]) -> io::Result<Option
     }
 }
 
-// The count of bytes of a case, three bytes with the low one first; none at the end of the input.
+// The count of bytes of a case, three bytes with the low one first; none at the end of the list: a count of 0, or the
+// end of the input.
 fn count(input: &mut impl Read) -> io::Result<Option<usize>> {
     let mut three = [0u8; 3];
     if !is_filled(input, &mut three)? {
         return Ok(None);
     }
     let [low, middle, high] = three;
-    Ok(Some(u32::from_le_bytes([low, middle, high, 0]) as usize))
+    let count = u32::from_le_bytes([low, middle, high, 0]) as usize;
+    Ok((count != 0).then_some(count))
 }
 
 // Whether the input had enough bytes to fill a slice.

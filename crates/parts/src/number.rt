@@ -14,14 +14,17 @@ pub fn read<'a>(bytes: &[u8], numbers: &'a mut [usize]) -> &'a [usize] {
     slice::after(numbers, first)
 }
 
-// A byte before the numbers from first on: without a top bit it is the high end of a number of its own.
+// A byte before the numbers from first on: without a top bit it is the high end of a number of its own, for which there
+// may be no room.
 fn put(byte: u8, first: usize, numbers: &mut [usize]) -> usize {
     if byte < 128 {
-        let first = first.saturating_sub(1);
-        if let Some(number) = numbers.get_mut(first) {
+        let Some(before) = first.checked_sub(1) else {
+            return first;
+        };
+        if let Some(number) = numbers.get_mut(before) {
             *number = byte as usize;
         }
-        return first;
+        return before;
     }
     if let Some(number) = numbers.get_mut(first) {
         *number = *number % KEPT * 128 + (byte % 128) as usize;

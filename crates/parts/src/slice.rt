@@ -20,18 +20,13 @@ pub fn back<T>(xs: &[T], n: usize) -> &[T] {
     &xs[xs.len().saturating_sub(n)..]
 }
 
-// What each item becomes, at the front of a slice that is lent for it, as far as both reach: the part that is filled.
-pub fn mapped<'a, A: Copy, B: Copy, F: Fn(A) -> B>(
-    items: &[A],
-    room: &'a mut [B],
-    becomes: F,
-) -> &'a [B]
+// What each item becomes, to the front of a slice, as far as both reach.
+pub fn mapped<A: Copy, B: Copy, F: Fn(A) -> B>(items: &[A], room: &mut [B], becomes: F)
     requires { F.IsAlwaysCallable becomes }
 {
     for (to, item) in room.iter_mut().zip(items) {
         *to = becomes(*item);
     }
-    front(room, items.len())
 }
 
 // The pattern: in each place a number that no table holds, and not that of the places beside it.

@@ -5,7 +5,8 @@ use paper::Refusal;
 use parts::case::Case;
 use parts::slice;
 
-// The three calls of one table, and their answers compared. Arrays and no Vec: fixed memory.
+// The three calls of one table, and their answers compared; a stretch that is not at its place is wrong, and counted as
+// accepted. Arrays and no Vec: fixed memory.
 pub fn asked(mut case: Case) -> Outcome {
     let mut rows = [0; 20000];
     let mut tokens = [0; 20000];
@@ -14,9 +15,15 @@ pub fn asked(mut case: Case) -> Outcome {
     let matched = explain::matched(table, tokens);
     let place = explain::place(table, tokens);
     let stretch = explain::stretch(table, tokens);
+    if !is_at(stretch, table.rows, place) {
+        return Outcome {
+            refusal: None,
+            right: false,
+        };
+    }
     Outcome {
         refusal: matched.err(),
-        right: is_said(case.rest, matched, place) && is_at(stretch, table.rows, place),
+        right: is_said(case.rest(), matched, place),
     }
 }
 

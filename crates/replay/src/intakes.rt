@@ -19,7 +19,7 @@ pub fn asked(mut case: Case) -> Outcome {
     let lent = slice::lent(&mut out, case.number());
     let answer = intake::shrunk_table(productions, counts, lengths, tokens, lent);
     let windows = case.list();
-    answer::compared(case, answer, &out, |table| are_told(windows, table))
+    answer::compared(case.rest(), answer, &out, |table| are_told(windows, table))
 }
 
 // Six numbers a window: three tokens, and what is predicted.
@@ -30,7 +30,7 @@ fn are_told(windows: &[usize], table: Table) -> bool {
 // Whether the table predicts of a window what the window says.
 fn is_told(window: &[usize], table: Table) -> bool {
     let mut tokens = [0; 3];
-    let tokens = slice::mapped(slice::front(window, 3), &mut tokens, number::token);
-    let answer = predict::predict(Mode::Intake, table, 3, tokens);
+    slice::mapped(slice::front(window, 3), &mut tokens, number::token);
+    let answer = predict::predict(Mode::Intake, table, 3, &tokens);
     predicts::compared(slice::after(window, 3), answer).right
 }

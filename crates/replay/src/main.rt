@@ -36,21 +36,19 @@ fn replay(rt: &impl Print, input: &mut impl Read, tallies: &mut Tallies) -> io::
         let Some(bytes) = tally::next(input, &mut bytes)? else {
             break;
         };
-        let case = Case {
-            rest: number::read(bytes, &mut numbers),
-        };
-        told(rt, bytes, case, tallies)?;
+        let record = Case::new(number::read(bytes, &mut numbers));
+        told(rt, bytes, record, tallies)?;
     }
     Ok(())
 }
 
 // A name, or a case, which stands behind its call and its source.
-fn told(rt: &impl Print, bytes: &[u8], mut case: Case, tallies: &mut Tallies) -> io::Result<()> {
-    let Ok(call) = Call::try_from(case.number()) else {
-        return named(rt, bytes, case.number(), tallies.right);
+fn told(rt: &impl Print, bytes: &[u8], mut record: Case, tallies: &mut Tallies) -> io::Result<()> {
+    let Ok(call) = Call::try_from(record.number()) else {
+        return named(rt, bytes, record.number(), tallies.right);
     };
-    let _source = case.number();
-    tallies.add(rt, call, asked(call, case, bytes))
+    let _source = record.number();
+    tallies.add(rt, call, asked(call, record.part(), bytes))
 }
 
 // What a call answered for a case.

@@ -9,10 +9,11 @@ pub fn asked(mut case: Case) -> Outcome {
     let mut tokens = [0; 20000];
     let mode = case.mode();
     let table = case.table(&mut rows);
-    let stream = case.number();
-    let tokens = case.tokens(&mut tokens);
-    let answer = predict::predict(mode, table, stream, tokens);
-    compared(case.rest, answer)
+    let mut stream = case.part();
+    let k = stream.number();
+    let tokens = stream.tokens(&mut tokens);
+    let answer = predict::predict(mode, table, k, tokens);
+    compared(stream.rest(), answer)
 }
 
 // Whether a prediction is what is said: 0, the production and the rows entered, or the refusal's number and two 0.

@@ -17,15 +17,13 @@ pub fn asked(mut case: Case, bytes: &[u8]) -> Outcome {
         rows: title.rows,
         states: 0,
     });
-    let expected = Case { rest: case.list() };
-    answer::compared(expected, answer, &out, |table| is_written(table, text))
+    answer::compared(case.list(), answer, &out, |table| is_written(table, text))
 }
 
-// Whether text out writes a table as this text, and nothing behind it.
+// Whether text out writes a table as this text, and nothing behind it. Where it refuses, it writes no byte.
 fn is_written(table: Table, text: &[u8]) -> bool {
     let mut bytes = [0; 262144];
-    match text_out::text_out(table, &mut bytes) {
-        Ok(n) => slice::front(&bytes, n) == text && (n..bytes.len()).all(|i| bytes[i] == 0),
-        Err(_) => false,
-    }
+    let answer = text_out::text_out(table, &mut bytes);
+    let n = answer.unwrap_or(0);
+    slice::front(&bytes, n) == text && (n..bytes.len()).all(|i| bytes[i] == 0)
 }
