@@ -6,7 +6,7 @@ use Rattle.grow.specs.declared.Growing.{Growing}
 
 -- The array from the first row on.
 abbrev pub seen : Growing → List ℤ
-seen g = view g.buf g.lo
+seen g = view g.spread.buf g.spread.lo
 
 -- The rows.
 abbrev pub rows_of : Growing → List Row

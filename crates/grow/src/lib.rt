@@ -9,40 +9,39 @@ ghost use Rattle.rows.specs.Places.{given};
 ghost use Rattle.trees.proofs.Tree.{Tree};
 ghost use Rattle.grow_laws.specs.Held.{view, row_held, Laid, table_of, Seeks, Missed, Added, Given};
 
+use grow_ends::Spread;
 use paper::{Heading, Production, State, Terminal};
 use rows::{Rows, numbers};
 
-// The n rows begin at row lo of the array.
+// n rows that rise, each within its bounds. That they are a tree give asks: held here, add would ask more of callers.
 #[derive(Drop)]
 pub struct Growing {
-    buf: [i32; 4608],
-    lo: usize,
+    spread: Spread,
     n: usize,
-    ghost laid: { Laid (view buf lo) n },
+    ghost laid: { Laid (view spread.buf spread.lo) n },
 }
 
 impl Growing {
     ghost use Rattle.grow.specs.Seen.{seen, rows_of};
 
-    // No rows yet; the first will stand at row 128.
+    // No rows yet.
     pub fn empty() -> Growing
-        ensures { (result.lo ≡ 128) × (result.n ≡ 0) }
+        ensures { result.n ≡ 0 }
     {
         Growing {
-            buf: [0; 4608],
-            lo: 128,
+            spread: Spread::empty(),
             n: 0,
         }
     }
 
-    // The rows of a table that passed the checks, from row 128 on.
+    // The rows of a table that passed the checks.
     pub fn of(rows: Rows) -> Growing
         requires { (length rows.numbers.now ≤ 4092)
             × (length rows.numbers.now / 4 * 4 ≡ length rows.numbers.now) }
         ensures { rows_of result ≡ rows_in rows.entry.numbers.now }
     {
         let mut growing = Growing::empty();
-        growing.buf[512..512 + rows.numbers.len()].copy_from_slice(rows.numbers);
+        growing.spread.copy(rows.numbers);
         growing.n = rows.count();
         growing
     }
@@ -58,9 +57,8 @@ impl Growing {
     fn rows(&self) -> Rows
         ensures { result.numbers.now ≡ take (self.now.n * 4) (seen self.now) }
     {
-        let first = self.lo * 4;
         Rows {
-            numbers: &self.buf[first..first + self.n * 4],
+            numbers: self.spread.numbers(self.n),
         }
     }
 
@@ -102,7 +100,7 @@ impl Growing {
             to,
             numbers::signed(production),
         ];
-        self.lo = grow_ends::insert(&mut self.buf, self.lo, self.n, i, row);
+        self.spread.insert(self.n, i, row);
         self.n += 1;
     }
 
@@ -112,7 +110,7 @@ impl Growing {
         requires { Tree (rows_of self.old) × (i < self.old.n) }
         ensures { Given (seen self.old) (seen self.new) self.old.n i (given production) × (self.new.n ≡ self.old.n) }
     {
-        self.buf[(self.lo + i) * 4 + 3] = numbers::signed(production);
+        self.spread.set(i * 4 + 3, numbers::signed(production));
     }
 
     // The rows at the front of the output, and the answer.

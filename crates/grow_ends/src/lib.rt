@@ -1,51 +1,94 @@
-// A row put in among n rows that begin at row lo: the rows at the nearer end make room for it.
+// A row put in among rows that begin at row lo of an array: the rows at the nearer end make room for it.
 #![tactic(auto, using(grow_laws::proofs::Viewed::reached, grow_laws::proofs::PutIn::slid_inserted))]
 
-ghost use Rattle.std.specs.Prelude.{◌*◌, ◌<◌, ◌≤◌, length};
+ghost use Rattle.std.specs.Prelude.{◌≡◌, ◌*◌, ◌<◌, ◌≤◌, length, take, set};
 ghost use Rattle.grow_laws.specs.Moves.{Inserted, Slid};
 ghost use Rattle.grow_laws.specs.Held.{view};
 
 use grow_moves::{down, up};
 
-// The rows from p on go up.
-fn above(buf: &mut [i32], lo: usize, n: usize, p: usize, row: [i32; 4]) -> usize
-    requires { (p ≤ n) × (n < 1023) × (4092 ≤ length (view buf.old lo)) }
-    ensures { Inserted (view buf.old lo) (view buf.new result) n p row }
-{
-    up::insert_row(&mut buf[lo * 4..], n, p, row);
-    lo
+// An array in which rows begin at row lo, with room for 1,023.
+#[derive(Drop)]
+pub struct Spread {
+    buf: [i32; 4608],
+    lo: usize,
+    ghost room: { 4092 ≤ length (view buf lo) },
 }
 
-// The rows before p go down.
-fn below(buf: &mut [i32], lo: usize, n: usize, p: usize, row: [i32; 4]) -> usize
-    requires { (p ≤ n) × (n < 1023) × (4092 ≤ length (view buf.old lo)) × (0 < lo) }
-    ensures { Inserted (view buf.old lo) (view buf.new result) n p row }
-{
-    let low = lo - 1;
-    down::insert_row(&mut buf[low * 4..], p, row);
-    low
-}
-
-// Rows that begin at row 0 go up by 128 rows, where the array is long enough.
-fn spare(buf: &mut [i32], lo: usize, n: usize) -> usize
-    requires { (n < 1023) × (4092 ≤ length (view buf.old lo)) }
-    ensures { Slid (view buf.old lo) (view buf.new result) n }
-{
-    if 0 < lo || buf.len() < 4604 {
-        return lo;
+impl Spread {
+    // The first row will stand at row 128.
+    pub fn empty() -> Spread {
+        Spread {
+            buf: [0; 4608],
+            lo: 128,
+        }
     }
-    up::open_rows(buf, 128, n, 0);
-    128
-}
 
-// A row is put in before row p; the answer is where the rows now begin.
-pub fn insert(buf: &mut [i32], lo: usize, n: usize, p: usize, row: [i32; 4]) -> usize
-    requires { (p ≤ n) × (n < 1023) × (4092 ≤ length (view buf.old lo)) }
-    ensures { Inserted (view buf.old lo) (view buf.new result) n p row }
-{
-    let at = spare(buf, lo, n);
-    if 0 < at && p + p < n {
-        return below(buf, at, n, p, row);
+    // The numbers of the first n rows.
+    pub fn numbers(&self, n: usize) -> &[i32]
+        requires { n ≤ 1023 }
+        ensures { result.now ≡ take (n * 4) (view self.now.buf self.now.lo) }
+    {
+        let first = self.lo * 4;
+        &self.buf[first..first + n * 4]
     }
-    above(buf, at, n, p, row)
+
+    // A number of the rows.
+    pub fn set(&mut self, at: usize, number: i32)
+        requires { at < 4092 }
+        ensures { view self.new.buf self.new.lo ≡ set (view self.old.buf self.old.lo) at number }
+    {
+        self.buf[self.lo * 4 + at] = number;
+    }
+
+    // Numbers in the place of the first.
+    pub fn copy(&mut self, numbers: &[i32])
+        requires { length numbers.now ≤ 4092 }
+        ensures { take (length numbers.now) (view self.new.buf self.new.lo) ≡ numbers.now }
+    {
+        let first = self.lo * 4;
+        self.buf[first..first + numbers.len()].copy_from_slice(numbers);
+    }
+
+    // A row is put in before row p of n: the rows from p on go up.
+    fn above(&mut self, n: usize, p: usize, row: [i32; 4])
+        requires { (p ≤ n) × (n < 1023) }
+        ensures { Inserted (view self.old.buf self.old.lo) (view self.new.buf self.new.lo) n p row }
+    {
+        up::insert_row(&mut self.buf[self.lo * 4..], n, p, row);
+    }
+
+    // The rows before p go down.
+    fn below(&mut self, n: usize, p: usize, row: [i32; 4])
+        requires { (p ≤ n) × (n < 1023) × (0 < self.old.lo) }
+        ensures { Inserted (view self.old.buf self.old.lo) (view self.new.buf self.new.lo) n p row }
+    {
+        let low = self.lo - 1;
+        down::insert_row(&mut self.buf[low * 4..], p, row);
+        self.lo = low;
+    }
+
+    // Rows that begin at row 0 go up by 128 rows.
+    fn spare(&mut self, n: usize)
+        requires { n < 1023 }
+        ensures { Slid (view self.old.buf self.old.lo) (view self.new.buf self.new.lo) n × (0 < self.new.lo) }
+    {
+        if self.lo == 0 {
+            up::open_rows(&mut self.buf, 128, n, 0);
+            self.lo = 128;
+        }
+    }
+
+    // A row is put in before row p of n.
+    pub fn insert(&mut self, n: usize, p: usize, row: [i32; 4])
+        requires { (p ≤ n) × (n < 1023) }
+        ensures { Inserted (view self.old.buf self.old.lo) (view self.new.buf self.new.lo) n p row }
+    {
+        self.spare(n);
+        if p + p < n {
+            self.below(n, p, row);
+        } else {
+            self.above(n, p, row);
+        }
+    }
 }

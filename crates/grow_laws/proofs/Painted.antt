@@ -21,9 +21,8 @@ use Rattle.trees.proofs.Find.{In}
 use Rattle.trees.proofs.Rising.{before_last, after_last, not_before_itself, rising_true, true_rising}
 use Rattle.trees.proofs.Paint.{paint, rising_paint}
 use Rattle.trees.proofs.Tree.{Tree, same_to, up}
-use Rattle.grow_laws.specs.Held.{view, held, row_held, Laid, Given}
+use Rattle.grow_laws.specs.Held.{held, row_held, Laid, Given}
 use Rattle.grow_laws.proofs.Written.{no_row, held_length, held_at}
-use Rattle.grow_laws.proofs.Viewed.{view_set}
 use Rattle.grow_laws.proofs.Placed.{room, written, laid_by, fitting}
 
 -- a production for the state that row i of a tree leads to.
@@ -140,11 +139,8 @@ module _ (buf : List ℤ) (n i : ℕ) (p : Option ℕ) (f : production_fits p �
       }
 
 -- the production written in the array
-pub gives : (buf : List ℤ) (lo n i : ℕ) (p : Option ℕ) (z : ℤ) → Laid (view buf lo) n → Tree (held (view buf lo) n)
-    → i < n → production_fits p ≡ true → z ≡ signed p
-    → Given (view buf lo) (view (set buf ((lo + i) * 4 + 3) z) lo) n i p
-gives buf lo n i p z l t h f d =
-    let e : view (set buf ((lo + i) * 4 + 3) z) lo ≡ set (view buf lo) (i * 4 + 3) (signed p) =
-    view_set buf lo i 3 z ∙ ap (set (view buf lo) (i * 4 + 3)) d in
-    given (view buf lo) n i p f (record { laid = l; tree = t; there = h }) (view (set buf ((lo + i) * 4 + 3) z) lo) e
-    (ap length e ∙ simp length-set)
+pub gives : (buf new : List ℤ) (n i : ℕ) (p : Option ℕ) (z : ℤ) → Laid buf n → Tree (held buf n) → i < n
+    → production_fits p ≡ true → z ≡ signed p → new ≡ set buf (i * 4 + 3) z → Given buf new n i p
+gives buf new n i p z l t h f d e =
+    let k : new ≡ set buf (i * 4 + 3) (signed p) = e ∙ ap (set buf (i * 4 + 3)) d in
+    given buf n i p f (record { laid = l; tree = t; there = h }) new k (ap length k ∙ simp length-set)

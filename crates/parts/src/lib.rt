@@ -1,5 +1,6 @@
-// The numbers of a case of the fixed list, its parts, and the comparing of slices.
+// A reader of the cases of the fixed list, and the parts of slices.
 #![tactic(auto)]
 
+pub mod case;
 pub mod number;
 pub mod slice;

@@ -1,31 +1,22 @@
 // The cases of build.
 use cases::answer;
 use cases::tally::Outcome;
-use parts::{number, slice};
+use paper::StringList;
+use parts::case::Case;
+use parts::slice;
 
-pub fn asked(case: &[usize]) -> Outcome {
-    let mut tokens = [0u16; 20000];
-    let mut out = [0i32; 20000];
-    let text = slice::beyond(case, 1);
-    slice::tokens(slice::counted(text, 0), &mut tokens);
-    called(
-        slice::beyond(text, 0),
-        number::signed(slice::at(case, 0)),
-        slice::front_tokens(&tokens, slice::at(text, 0)),
-        slice::counted(case, 1),
-        &mut out,
-    )
-}
-
-// The call, with as much of the output as the case says.
-fn called(
-    rest: &[usize],
-    production: i32,
-    tokens: &[u16],
-    lengths: &[usize],
-    out: &mut [i32],
-) -> Outcome {
-    let room = slice::lent(rest, out);
-    let making = build::build(production, tokens, lengths, &mut out[..room]);
-    answer::compared(slice::after(rest, 1), making, out)
+// The call, with as much of the output as the case says. Arrays and no Vec: fixed memory.
+pub fn asked(mut case: Case) -> Outcome {
+    let mut tokens = [0; 20000];
+    let mut out = [0; 20000];
+    let production = case.signed();
+    let lengths = case.list();
+    let list = StringList {
+        production,
+        tokens: case.tokens(&mut tokens),
+        lengths,
+    };
+    let lent = slice::lent(&mut out, case.number());
+    let answer = build::build(list, lent);
+    answer::compared(case.rest(), answer, &out, |_| true)
 }

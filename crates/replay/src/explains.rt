@@ -1,49 +1,41 @@
 // The cases of explain.
-use cases::answer;
 use cases::tally::Outcome;
 use explain::Part;
-use paper::Explanation;
+use paper::Refusal;
+use parts::case::Case;
 use parts::slice;
 
-// The three calls of one table.
-pub fn asked(case: &[usize]) -> Outcome {
-    let mut rows = [0i32; 20000];
-    let mut tokens = [0u16; 20000];
-    let table = slice::table(case, 0, &mut rows);
-    slice::tokens(slice::counted(case, table.next), &mut tokens);
-    called(
-        slice::beyond(case, table.next),
-        table.prod0,
-        table.k,
-        slice::front_numbers(&rows, table.count),
-        slice::front_tokens(&tokens, slice::at(case, table.next)),
-    )
-}
-
-// The count, the place of the stretch and the stretch itself.
-fn called(expected: &[usize], prod0: i32, k: usize, rows: &[i32], tokens: &[u16]) -> Outcome {
-    let lies = explain::place(prod0, k, rows, tokens);
-    if !is_stretch(explain::stretch(prod0, k, rows, tokens), rows, lies) {
+// The three calls of one table, and their answers compared; a stretch that is not at its place is wrong, and counted as
+// accepted. Arrays and no Vec: fixed memory.
+pub fn asked(mut case: Case) -> Outcome {
+    let mut rows = [0; 20000];
+    let mut tokens = [0; 20000];
+    let table = case.table(&mut rows);
+    let tokens = case.tokens(&mut tokens);
+    let matched = explain::matched(table, tokens);
+    let place = explain::place(table, tokens);
+    let stretch = explain::stretch(table, tokens);
+    if !is_at(stretch, table.rows, place) {
         return Outcome {
-            number: 0,
+            refusal: None,
             right: false,
         };
     }
-    match explain::matched(prod0, k, rows, tokens) {
-        Explanation::Matched(count) => {
-            let numbers = [0, count, lies.start, lies.count];
-            answer::outcome(expected, &numbers)
-        }
-        Explanation::Refused(refusal) => {
-            let numbers = [refusal.number(), lies.start, lies.count];
-            answer::outcome(expected, &numbers)
-        }
+    Outcome {
+        refusal: matched.err(),
+        right: is_said(case.rest(), matched, place),
     }
 }
 
-fn is_stretch(part: &[i32], rows: &[i32], lies: Part) -> bool {
-    if part.len() != lies.count {
-        return false;
+// Whether the count of matched tokens, or the refusal, and the place of the stretch are what is said.
+fn is_said(expected: &[usize], matched: Result<usize, Refusal>, place: Part) -> bool {
+    match matched {
+        Ok(count) => expected == [0, count, place.start, place.count].as_slice(),
+        Err(refusal) => expected == [refusal.number(), place.start, place.count].as_slice(),
     }
-    slice::is_part(part, rows, lies.start)
+}
+
+// Whether a stretch is what stands at its place in the rows.
+fn is_at(stretch: &[i32], rows: &[i32], place: Part) -> bool {
+    slice::after(rows, place.start).get(..place.count) == Some(stretch)
 }

@@ -1,40 +1,29 @@
 // The cases of predict.
-use cases::answer;
 use cases::tally::Outcome;
-use paper::Prediction;
-use parts::{number, slice};
+use paper::{Prediction, Refusal};
+use parts::case::Case;
 
-// The call, and its answer compared.
-pub fn asked(case: &[usize]) -> Outcome {
-    let mut rows = [0i32; 20000];
-    let mut tokens = [0u16; 20000];
-    let table = slice::table(case, 1, &mut rows);
-    let stream = slice::after(case, table.next);
-    slice::tokens(slice::counted(stream, 1), &mut tokens);
-    let prediction = predict::predict(
-        number::mode(slice::at(case, 0)),
-        table.prod0,
-        table.k,
-        slice::front_numbers(&rows, table.count),
-        slice::at(stream, 0),
-        slice::front_tokens(&tokens, slice::at(stream, 1)),
-    );
-    compared(slice::beyond(stream, 1), prediction)
+// The call, and its answer compared. Arrays and no Vec: fixed memory.
+pub fn asked(mut case: Case) -> Outcome {
+    let mut rows = [0; 20000];
+    let mut tokens = [0; 20000];
+    let mode = case.mode();
+    let table = case.table(&mut rows);
+    let mut stream = case.part();
+    let k = stream.number();
+    let tokens = stream.tokens(&mut tokens);
+    let answer = predict::predict(mode, table, k, tokens);
+    compared(stream.rest(), answer)
 }
 
-// The production and the rows entered, or the refusal's number and two 0.
-pub fn compared(expected: &[usize], prediction: Prediction) -> Outcome {
-    match prediction {
-        Prediction::Predicted {
-            production,
-            entered,
-        } => {
-            let numbers = [0, production.0 as usize, entered];
-            answer::outcome(expected, &numbers)
-        }
-        Prediction::Refused(refusal) => {
-            let numbers = [refusal.number(), 0, 0];
-            answer::outcome(expected, &numbers)
-        }
+// Whether a prediction is what is said: 0, the production and the rows entered, or the refusal's number and two 0.
+pub fn compared(expected: &[usize], answer: Result<Prediction, Refusal>) -> Outcome {
+    let said = match answer {
+        Ok(prediction) => [0, usize::from(prediction.production.0), prediction.entered],
+        Err(refusal) => [refusal.number(), 0, 0],
+    };
+    Outcome {
+        refusal: answer.err(),
+        right: expected == said.as_slice(),
     }
 }

@@ -1,6 +1,6 @@
 -- From what is written to what `tabrep` prints. Assumes nothing.
 use Prim.Native.Nat.{ℕ, ◌<◌, ◌≤◌}
-use mathlib.Core.Path.{◌≡◌, ap, sym, ◌∙◌}
+use mathlib.Core.Path.{refl, ◌≡◌, ap, sym, ◌∙◌}
 use mathlib.Core.List.{List, [], ◌++◌}
 use native.Mathlib.Omega.{arith}
 use borrow.Author.Tests.{lt-ltb, le-ltb}
@@ -25,24 +25,22 @@ module _ {old new a b : List ℕ} {room n : ℕ} where
         part = sym (length-take-le n new within);
       }
 
-pub prints_as : {old new a b : List ℕ} {n : ℕ} → Prints a old new n → a ≡ b → Prints b old new n
-prints_as p e = rw e at p
-
 pub printed_lines : {r : Ruling (List ℕ)} {b : List ℕ} → r ≡ accept b → b ≡ printed r
 unfolding printed
 printed_lines e = rw e
 
-pub printed_same : {q r : Ruling (List ℕ)} → q ≡ r → printed q ≡ printed r
-printed_same e = ap printed e
-
 pub printed_refusal : {r : Ruling (List ℕ)} {n : ℕ} {d : List ℕ} → r ≡ refuse n d → printed (refuse n d) ≡ printed r
-printed_refusal e = printed_same (sym e)
+printed_refusal e = ap printed (sym e)
+
+pub printed_report : (input : List ℕ) → printed (report input) ≡ tabrep input
+unfolding tabrep
+printed_report input = refl
 
 module _ (input : List ℕ) where
-  pub too_long : 65536 < length input → printed (refuse 1 []) ≡ tabrep input
-  unfolding tabrep report
+  pub too_long : 65536 < length input → refuse 1 [] ≡ report input
+  unfolding report
   too_long h = rw (lt-ltb 65536 (length input) h)
 
-  pub by_text : length input ≤ 65536 → printed (of_text input) ≡ tabrep input
-  unfolding tabrep report of_text of_table
+  pub by_text : length input ≤ 65536 → of_text input ≡ report input
+  unfolding report of_text of_table
   by_text h = rw (le-ltb 65536 (length input) h)

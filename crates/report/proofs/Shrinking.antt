@@ -1,5 +1,5 @@
 -- What shrink answers, as the report on a table goes by it. Assumes nothing.
-use Prim.Native.Nat.{ℕ, ◌≤◌, ◌/◌}
+use Prim.Native.Nat.{ℕ, ◌<◌, ◌≤◌, ◌/◌}
 use mathlib.Core.Path.{◌≡◌, refl, ap, sym, ◌∙◌}
 use mathlib.Core.List.{List}
 use native.Mathlib.Omega.{arith}
@@ -9,23 +9,23 @@ use lib.IntN.{ℤ}
 use Rattle.paper.specs.declared.Mode.{Mode}
 use Rattle.paper.specs.declared.Mode.TheVariants.{Archive, Intake}
 use Rattle.paper.specs.declared.Refusal.{Refusal}
-use Rattle.paper.specs.declared.Making.TheVariants.{Made, Refused}
+use Rattle.paper.specs.declared.Heading.{Heading}
+use Rattle.std.specs.Prelude.{Ok, Err}
 use Rattle.paper.specs.Rows.{Table, table, rows_in, states, signed}
 use Rattle.paper.specs.Answers as answers
-use Rattle.paper.specs.Answers.{Ruling, accept, refuse, then, Heading, Makes, number, detail}
+use Rattle.paper.specs.Answers.{Ruling, accept, refuse, then, Makes, number, detail}
 use Rattle.paper.specs.Checks.{little_room, range, order, shape, loose, split}
 use Rattle.paper.specs.Shrink.{shrunk, shrink_table, shrink}
 use Rattle.paper.specs.Tabrep.{lines_of}
 use Rattle.rows.proofs.Rest.{length_rows}
-use Rattle.row_checks.proofs.Judged.{rows_fit}
-use Rattle.counts.specs.Arrays.{Fitting}
+use Rattle.rows.specs.Passed.{Passed}
+use Rattle.row_checks.proofs.Judged.{measured, passed}
 use Rattle.merging.proofs.States.{states_length}
 use Rattle.merging.proofs.Promises.{shrunk_rows_le, shrunk_states_le}
-use Rattle.shrink.proofs.Parts.{slice_few}
 use Rattle.laws.proofs.Refusals.{refuse_accept, refused_is}
 use Rattle.text_trips.proofs.Back.{passes}
-use Rattle.report_lines.specs.declared.Sizes.{Sizes}
-use Rattle.report_lines.specs.Printed.{Small, three}
+use Rattle.report_lines.specs.declared.sizes.Sizes.{Sizes}
+use Rattle.report_lines.specs.Printed.{three}
 use Rattle.report.specs.Rulings.{Taken, Sized, of_table}
 
 -- the heading of what shrink makes
@@ -37,12 +37,19 @@ heading m = record {
   states = m.states;
 }
 
+-- what shrink made, by the heading that it answers
+record Shrunk (mode : Mode) (t : Table) (h : Heading) : Type 0 where
+  made : answers.Made
+  ruled : shrink_table mode t ≡ accept made
+  states : h.states ≡ made.states
+  rows : h.rows ≡ length made.table.rows
+
 module _ {p : ℤ} {k : ℕ} {ns : List ℤ} (taken : Taken p k ns) where
   pub few : length ns ≤ 16384
-  few = slice_few ns taken.whole
+  few = (measured ns taken.whole).few
 
-  pub fitting : Fitting ns
-  fitting = record { fits = rows_fit (table p k ns) taken.ranged; few = few }
+  pub taken_passed : Passed ns
+  taken_passed = passed p k ns taken.ranged taken.ordered
 
   few_rows : length (rows_in ns) ≤ 4096
   few_rows = omega (arith, length_rows ns, few)
@@ -52,55 +59,58 @@ module _ {p : ℤ} {k : ℕ} {ns : List ℤ} (taken : Taken p k ns) where
   unfolding shrink little_room
   shrink_is mode room l = rw (taken.whole, le-ltb room 16384 l)
 
+  -- the sizes have five digits at most
+  pub table_small : (length (states (rows_in ns)) < 100000) × (length ns / 4 < 100000)
+  table_small = (omega (arith, states_length (rows_in ns), few_rows), omega (arith, few))
+
+  made_small : (mode : Mode) (m : answers.Made) → shrink_table mode (table p k ns) ≡ accept m →
+      (m.states < 100000) × (length m.table.rows < 100000)
+  unfolding shrink_table
+  made_small mode m ruled =
+      let t = table p k ns in
+      let a = passes (range t) 2 _ m ruled in
+      let b = passes (order t) 3 _ m a.1 in
+      let c = passes (shape t) 4 _ m b.1 in
+      let d = passes (loose t) 5 _ m c.1 in
+      let e = passes (split t) 6 _ m d.1 in
+      let same : shrunk mode t ≡ m = let q = e.1 in cc in
+      let states_le : m.states ≤ length (states (rows_in ns)) = rw same at (shrunk_states_le mode t c.0) in
+      let rows_le : length m.table.rows ≤ length (rows_in ns) = rw same at (shrunk_rows_le mode t c.0) in
+      (omega (arith, states_le, states_length (rows_in ns), few_rows), omega (arith, rows_le, few_rows))
+
   module _ (mode : Mode) (room : ℕ) (l : 16384 ≤ room) {old new : List ℤ} where
-    pub shrunk_refused : (f : Refusal) → Makes (shrink mode p k ns room) (Refused f) old new →
+    pub shrunk_refused : (f : Refusal) → Makes (shrink mode p k ns room) (Err f) old new →
         shrink_table mode (table p k ns) ≡ refuse (number f) (detail f)
     shrunk_refused f m =
         sym (shrink_is mode room l) ∙ refused_is heading (shrink mode p k ns room) (number f) (detail f) m.says
 
-    pub shrunk_sized : (q : ℤ) (j n s : ℕ) → Makes (shrink mode p k ns room) (Made q j n s) old new →
-        Sized mode (table p k ns) (record { states = s; rows = n })
-    shrunk_sized q j n s m = go (shrink mode p k ns room) refl m.says
+    shrunk_as : (h : Heading) → Makes (shrink mode p k ns room) (Ok h) old new → Shrunk mode (table p k ns) h
+    shrunk_as h m = go (shrink mode p k ns room) refl m.says
       where
         go : (r : Ruling answers.Made) → shrink mode p k ns room ≡ r →
-            accept (record { prod0 = q; k = j; rows = n; states = s }) ≡ then r (λ x. accept (heading x)) →
-            Sized mode (table p k ns) (record { states = s; rows = n })
+            accept h ≡ then r (λ x. accept (heading x)) → Shrunk mode (table p k ns) h
         go (accept x) is e =
-            let given : Heading = record { prod0 = q; k = j; rows = n; states = s } in
-            let same : given ≡ heading x = cc in
+            let same : h ≡ heading x = cc in
             record {
-              shrunk = x;
+              made = x;
               ruled = sym (shrink_is mode room l) ∙ is;
               states = ap (λ (h : Heading). h.states) same;
               rows = ap (λ (h : Heading). h.rows) same;
             }
         go (refuse c d) is e = refuse_accept (sym e)
 
-  -- the sizes have five digits at most
-  pub table_small : Small (record { states = length (states (rows_in ns)); rows = length ns / 4 })
-  table_small = record {
-    states = omega (arith, states_length (rows_in ns), few_rows);
-    rows = omega (arith, few);
-  }
+    pub shrunk_small : (h : Heading) → Makes (shrink mode p k ns room) (Ok h) old new →
+        (h.states < 100000) × (h.rows < 100000)
+    shrunk_small h m =
+        let s = shrunk_as h m in
+        let n = made_small mode s.made s.ruled in
+        (omega (arith, s.states, n), omega (arith, s.rows, n))
 
-  pub sized_small : {mode : Mode} {x : Sizes} → Sized mode (table p k ns) x → Small x
-  unfolding shrink_table
-  sized_small {mode} {x} z =
-      let t = table p k ns in
-      let a = passes (range t) 2 _ z.shrunk z.ruled in
-      let b = passes (order t) 3 _ z.shrunk a.1 in
-      let c = passes (shape t) 4 _ z.shrunk b.1 in
-      let d = passes (loose t) 5 _ z.shrunk c.1 in
-      let e = passes (split t) 6 _ z.shrunk d.1 in
-      let same : shrunk mode t ≡ z.shrunk = let q = e.1 in cc in
-      let states_le : z.shrunk.states ≤ length (states (rows_in ns)) =
-      rw same at (shrunk_states_le mode t c.0) in
-      let rows_le : length z.shrunk.table.rows ≤ length (rows_in ns) =
-      rw same at (shrunk_rows_le mode t c.0) in
-      record {
-        states = omega (arith, z.states, states_le, states_length (rows_in ns), few_rows);
-        rows = omega (arith, z.rows, rows_le, few_rows);
-      }
+    pub shrunk_sized : (h : Heading) → Makes (shrink mode p k ns room) (Ok h) old new → (x : Sizes) →
+        x.states ≡ h.states → x.rows ≡ h.rows → Sized mode (table p k ns) x
+    shrunk_sized h m x e f =
+        let s = shrunk_as h m in
+        record { shrunk = s.made; ruled = s.ruled; states = e ∙ s.states; rows = f ∙ s.rows }
 
 -- the report on a table
 pub archive_refused : (t : Table) {n : ℕ} {d : List ℕ} → shrink_table Archive t ≡ refuse n d → of_table t ≡ refuse n d

@@ -1,96 +1,76 @@
 // Document 01's program `tabrep`: what it prints for a text.
 #![tactic(auto)]
 
-ghost use Rattle.std.specs.Prelude.{◌≡◌, ◌≤◌, length};
+ghost use Rattle.std.specs.Prelude.{◌≡◌, ◌≤◌, length, MatchResult};
+ghost use Rattle.paper.specs.Answers.{refuse, number, detail};
 ghost use Rattle.paper.specs.Rows.{table};
-ghost use Rattle.paper.specs.Tabrep.{tabrep, printed};
-ghost use Rattle.paper.specs.declared.Mode.TheVariants.{Archive};
-ghost use Rattle.report.specs.Rulings.{Taken, Sized, Prints, of_table, of_text};
+ghost use Rattle.paper.specs.Shrink.{shrink_table};
+ghost use Rattle.paper.specs.Tabrep.{tabrep, report};
+ghost use Rattle.report.specs.Rulings.{Taken, Sized, Prints, of_table, told};
 
-use paper::{Making, Mode, Reading, Refusal};
-use report_lines::Sizes;
+use counts::FewRows;
+use paper::{Mode, Refusal, Table};
+use report_lines::sizes::{AllSizes, Sizes};
+use rows::Rows;
 
-// Shrinks a table in intake mode, and prints its sizes beside those of archive mode.
-fn with_intake(
-    prod0: i32,
-    k: usize,
-    rows: &[i32],
-    archive: Sizes,
-    spare: &mut [i32],
-    out: &mut [u8],
-) -> usize
-    requires { Taken prod0 k rows.now × Sized Archive (table prod0 k rows.now) archive
-        × (16384 ≤ length spare.old) × (64 ≤ length out.old) }
-    ensures { Prints (printed (of_table (table prod0 k rows.now)))
-        out.old out.new result }
+// The sizes of what a mode shrinks a table to.
+fn shrunk(mode: Mode, lent: Table, spare: &mut [i32]) -> Result<Sizes, Refusal>
+    requires { Taken lent.prod0 lent.k lent.rows.now × (16384 ≤ length spare.old) }
+    ensures { MatchResult result (Sized mode (table lent.entry.prod0 lent.entry.k lent.entry.rows.now))
+        (λ f. shrink_table mode (table lent.entry.prod0 lent.entry.k lent.entry.rows.now) ≡ refuse (number f) (detail f)) }
 {
-    let intake = shrink::shrink(Mode::Intake, prod0, k, rows, spare);
-    match intake {
-        Making::Made {
-            prod0: _,
-            k: _,
-            rows: count,
-            states,
-        } => {
-            let all = counts::state_count(rows);
-            report_lines::put_lines(
-                out,
-                Sizes {
-                    states: all,
-                    rows: rows.len() / 4,
-                },
-                archive,
-                Sizes {
-                    states,
-                    rows: count,
-                },
-            )
-        }
-        Making::Refused(f) => report_lines::put_refused(out, f),
-    }
+    let made = shrink::shrink(mode, lent, spare)?;
+    Ok(Sizes {
+        states: made.states,
+        rows: made.rows,
+    })
 }
 
-// Shrinks a table in both modes, archive first.
-fn with_archive(prod0: i32, k: usize, rows: &[i32], spare: &mut [i32], out: &mut [u8]) -> usize
-    requires { Taken prod0 k rows.now × (16384 ≤ length spare.old) × (64 ≤ length out.old) }
-    ensures { Prints (printed (of_table (table prod0 k rows.now)))
-        out.old out.new result }
+// The sizes of a table that was read, shrunk in both modes, archive first.
+fn sizes_of(lent: Table, spare: &mut [i32]) -> Result<AllSizes, Refusal>
+    requires { Taken lent.prod0 lent.k lent.rows.now × (16384 ≤ length spare.old) }
+    ensures { told result ≡ of_table (table lent.entry.prod0 lent.entry.k lent.entry.rows.now) }
 {
-    let archive = shrink::shrink(Mode::Archive, prod0, k, rows, spare);
-    match archive {
-        Making::Made {
-            prod0: _,
-            k: _,
-            rows: kept,
-            states,
-        } => {
-            let sizes = Sizes { states, rows: kept };
-            with_intake(prod0, k, rows, sizes, spare, out)
-        }
-        Making::Refused(f) => report_lines::put_refused(out, f),
-    }
+    let archive = shrunk(Mode::Archive, lent, spare)?;
+    let intake = shrunk(Mode::Intake, lent, spare)?;
+    let few = FewRows {
+        rows: Rows { numbers: lent.rows },
+    };
+    let table = Sizes {
+        states: counts::state_count(few),
+        rows: lent.rows.len() / 4,
+    };
+    Ok(AllSizes {
+        table,
+        archive,
+        intake,
+    })
 }
 
-// Reads a text's table.
-fn with_table(input: &[u8], buf: &mut [i32], spare: &mut [i32], out: &mut [u8]) -> usize
-    requires { (length buf.old ≡ 16384) × (16384 ≤ length spare.old) × (64 ≤ length out.old) }
-    ensures { Prints (printed (of_text input.now)) out.old out.new result }
+// The sizes of a text's table.
+fn measure(input: &[u8]) -> Result<AllSizes, Refusal>
+    ensures { told result ≡ report input.now }
 {
-    let reading = text_in::text_in(input, buf);
-    match reading {
-        Reading::Read { prod0, k, rows } => with_archive(prod0, k, &buf[..rows * 4], spare, out),
-        Reading::Refused(f) => report_lines::put_refused(out, f),
+    if 65536 < input.len() {
+        return Err(Refusal::Length);
     }
+    let mut read = [0i32; 16384];
+    let title = text_in::text_in(input, &mut read)?;
+    let lent = Table {
+        prod0: title.prod0,
+        k: title.k,
+        rows: &read[..title.rows * 4],
+    };
+    let mut spare = [0i32; 16384];
+    sizes_of(lent, &mut spare)
 }
 
 // What is printed for a text, at the front of the output, and how many bytes it is.
 pub fn report(input: &[u8], out: &mut [u8; 64]) -> usize
     ensures { Prints (tabrep input.now) out.old out.new result }
 {
-    if 65536 < input.len() {
-        return report_lines::put_refused(out, Refusal::Length);
+    match measure(input) {
+        Ok(sizes) => report_lines::put_lines(out, sizes),
+        Err(refusal) => report_lines::put_refused(out, refusal),
     }
-    let mut buf = [0i32; 16384];
-    let mut spare = [0i32; 16384];
-    with_table(input, &mut buf, &mut spare, out)
 }

@@ -9,8 +9,7 @@ use Rattle.paper.specs.Words.{bytes}
 use Rattle.paper.specs.Answers.{number, detail, refuse}
 use Rattle.paper.specs.Text.{digits, decimal}
 use Rattle.paper.specs.Tabrep.{line, printed}
-use Rattle.text_laws.specs.Put.{Puts}
-use Rattle.report_lines.specs.declared.Sizes.{Sizes}
+use Rattle.report_lines.specs.declared.sizes.Sizes.{Sizes}
 use Rattle.report_lines.specs.Printed.{labelled, three}
 
 pub line_parts : (w : List ℕ) (a b : ℕ) →
@@ -34,10 +33,6 @@ three_parts t a i = append_assoc
     (labelled (105 ∷ 110 ∷ 32 ∷ []) t.states t.rows)
     (labelled (97 ∷ 114 ∷ 99 ∷ 104 ∷ 105 ∷ 118 ∷ 101 ∷ 32 ∷ []) a.states a.rows)
     (labelled (105 ∷ 110 ∷ 116 ∷ 97 ∷ 107 ∷ 101 ∷ 32 ∷ []) i.states i.rows)
-
--- the same room
-pub puts_room : {l m a : List ℕ} {at n r q : ℕ} → r ≡ q → Puts l at r a m n → Puts l at q a m n
-puts_room e p = rw e at p
 
 -- a refusal's number has two digits at most
 pub number_small : (f : Refusal) → number f < 100000

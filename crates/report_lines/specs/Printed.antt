@@ -1,14 +1,9 @@
 -- The lines that are printed, of sizes.
-use Rattle.std.specs.Prelude.{ℕ, ◌<◌, List, [], ◌∷◌, ◌++◌, pos}
+use Rattle.std.specs.Prelude.{ℕ, List, [], ◌∷◌, ◌++◌, pos}
 use Prim.Native.String.{String}
 use Rattle.paper.specs.Text.{decimal}
 use Rattle.paper.specs.Tabrep.{line}
-use Rattle.report_lines.specs.declared.Sizes.{Sizes}
-
--- Sizes of five digits at most.
-pub record Small (x : Sizes) : Type 0 where
-  pub states : x.states < 100000
-  pub rows : x.rows < 100000
+use Rattle.report_lines.specs.declared.sizes.Sizes.{Sizes}
 
 -- A label, which ends in a space, and two numbers.
 unfoldable pub labelled : List ℕ → ℕ → ℕ → List ℕ

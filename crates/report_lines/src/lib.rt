@@ -5,37 +5,35 @@ ghost use Rattle.std.specs.Prelude.{◌+◌, ◌≤◌, length};
 ghost use Rattle.paper.specs.Answers.{number, detail, refuse};
 ghost use Rattle.paper.specs.Tabrep.{printed};
 ghost use Rattle.text_laws.specs.Put.{Puts};
-ghost use Rattle.report_lines.specs.Printed.{labelled, three, Small};
+ghost use Rattle.text_out.specs.Added.{Adds};
+ghost use Rattle.report_lines.specs.Printed.{labelled, three};
 
+pub mod sizes;
+
+use crate::sizes::{AllSizes, Sizes};
 use paper::Refusal;
-use text_out::writing;
-
-// How many states and rows a table has.
-#[derive(Clone, Copy)]
-pub struct Sizes {
-    pub states: usize,
-    pub rows: usize,
-}
+use text_out::writing::Writer;
 
 // A line of a label, which ends in a space, and two numbers.
-fn put_line(out: &mut [u8], at: usize, label: &[u8], sizes: Sizes) -> usize
-    requires { (at + (length label.now + 12) ≤ length out.old) × Small sizes }
-    ensures { Puts out.old at (length label.now + 12)
-        (labelled label.now sizes.states sizes.rows) out.new result }
+fn put_line(writer: &mut Writer, label: &[u8], sizes: Sizes)
+    requires { writer.old.at + (length label.now + 12) ≤ length writer.old.out.now }
+    ensures { Adds writer.old writer.new (length label.now + 12) (labelled label.now sizes.states sizes.rows) }
 {
-    let a = writing::put_field(out, at, label, sizes.states);
-    let b = writing::put_field(out, a, b" ", sizes.rows);
-    writing::put_word(out, b, b"\n")
+    writer.put_field(label, sizes.states);
+    writer.put_field(b" ", sizes.rows);
+    writer.put_word(b"\n");
 }
 
 // The three lines.
-pub fn put_lines(out: &mut [u8], table: Sizes, archive: Sizes, intake: Sizes) -> usize
-    requires { (54 ≤ length out.old) × Small table × Small archive × Small intake }
-    ensures { Puts out.old 0 54 (three table archive intake) out.new result }
+pub fn put_lines(out: &mut [u8], sizes: AllSizes) -> usize
+    requires { 54 ≤ length out.old }
+    ensures { Puts out.old 0 54 (three sizes.table sizes.archive sizes.intake) out.new result }
 {
-    let a = put_line(out, 0, b"in ", table);
-    let b = put_line(out, a, b"archive ", archive);
-    put_line(out, b, b"intake ", intake)
+    let mut writer = Writer { out, at: 0 };
+    put_line(&mut writer, b"in ", sizes.table);
+    put_line(&mut writer, b"archive ", sizes.archive);
+    put_line(&mut writer, b"intake ", sizes.intake);
+    writer.at
 }
 
 // The line of a refusal.
@@ -44,6 +42,8 @@ pub fn put_refused(out: &mut [u8], refusal: Refusal) -> usize
     ensures { Puts out.old 0 14 (printed (refuse (number refusal) (detail refusal)))
         out.new result }
 {
-    let a = writing::put_field(out, 0, b"refused ", refusal.number());
-    writing::put_word(out, a, b"\n")
+    let mut line = Writer { out, at: 0 };
+    line.put_field(b"refused ", refusal.number());
+    line.put_word(b"\n");
+    line.at
 }

@@ -4,8 +4,7 @@ use mathlib.Core.Path.{◌≡◌, sym, ap, ◌∙◌}
 use mathlib.Core.Bool.{Bool, true, false, not, ◌&&◌}
 use mathlib.Core.List.{List, [], ◌∷◌}
 use mathlib.Core.Option.{Option}
-use Prim.Native.Nat.{ℕ, ◌+◌, ◌*◌, ◌%◌, ◌<◌}
-use native.Mathlib.Omega.{arith}
+use Prim.Native.Nat.{ℕ, ◌+◌, ◌*◌, ◌%◌}
 use lib.IntN.{ℤ}
 use Rattle.paper.specs.declared.Mode.{Mode}
 use Rattle.paper.specs.Rows.{Table, rows_in}
@@ -17,12 +16,6 @@ use Rattle.merging.specs.Marks.{compared}
 use Rattle.shrink_alike.specs.Index.{leaves}
 use Rattle.shrink_alike.specs.Faces.{coded, counted, like, hash, sign, same_row, rows_alike, production_at}
 use Rattle.shrink_alike.proofs.Begins.{Standing, Walk, stand_end, stand_row}
-
--- a number stays below 65,521
-pub hash_small : (h : ℕ) (os : List (ℕ × ℕ)) → h < 65521 → hash h os < 65521
-unfolding hash
-hash_small h [] l = l
-hash_small h (o ∷ os) l = hash_small ((h * 27191 + o.0 * 40493 + o.1) % 65521) os (omega arith)
 
 module _ (ns : List ℤ) (mark : ℕ → ℕ) where
   -- the rows of s by marks, from i on

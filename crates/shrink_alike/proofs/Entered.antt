@@ -5,18 +5,19 @@ use mathlib.Core.Logic.{⊎_elim}
 use mathlib.Core.Option.{none}
 use mathlib.Core.Bool.{true, false, not, false≢true}
 use mathlib.Core.List.{List}
-use Prim.Native.Nat.{ℕ, ◌<◌, ◌≤◌}
+use Prim.Native.Nat.{ℕ, ◌+◌, ◌*◌, ◌<◌, ◌≤◌}
 use native.Mathlib.Omega.{arith}
 use borrow.Author.Tests.{eq-eqb, ne_eqb, eqb-true, not-true, not-false}
 use lib.Dec.{eqb}
-use lib.ListN.{get_or}
+use lib.ListN.{length, get_or}
 use lib.IntN.{ℤ}
 use Rattle.laws.proofs.Every.{any_some, any_true, every_in}
-use Rattle.laws.proofs.Members.{In}
-use Rattle.paper.specs.Rows.{rows_in, states}
+use Rattle.laws.proofs.Members.{In, nowhere, where_in}
+use Rattle.paper.specs.Rows.{Row, rows_in, states}
 use Rattle.paper.specs.Checks.{any, row_fits}
 use Rattle.rows.proofs.Fits.{fit}
-use Rattle.rows.proofs.Keys.{compared}
+use Rattle.rows.specs.Places.{row_at, rest}
+use Rattle.rows.proofs.Rest.{rest_cons, rest_end}
 use Rattle.ruled.specs.Into.{Marked, leads}
 use Rattle.counts.specs.Arrays.{Fitting}
 use Rattle.ruled.proofs.Firsts.{into_any}
@@ -62,18 +63,39 @@ tells_entered ns into m s l d = record {
   no = λ f. entered_only ns into m s l (eqb-true (get_or into s 0) 0 (not-false _ f)) d;
 }
 
--- no state is at the end of the marks that are not 0, or above
-pub topped : (ns : List ℤ) (into : List ℕ) → Fitting ns → Marked ns into → (top : ℕ) → 1 ≤ top → top ≤ 1024
-    → ((s : ℕ) → top ≤ s → s < 1024 → get_or into s 0 ≡ 0) → Topped (rows_in ns) top
-topped ns into f m top a b h = record {
-  some = a;
-  few = b;
-  all = λ s i. compared s top (λ l. l)
-      (λ l. absurd (gone s (omega (arith, l)) i))
-      (λ l. absurd (gone s (omega (arith, l)) i));
+-- ---- one more than the highest state
+
+-- The rows lead to states below top.
+pub record Below (rs : List Row) (top : ℕ) : Type 0 where
+  pub some : 1 ≤ top
+  pub few : top ≤ 1024
+  pub rows : (r : Row) → In r rs → r.to < top
+
+pub below_none : (ns : List ℤ) (i : ℕ) → length ns < i * 4 + 4 → Below (rest ns i) 1
+below_none ns i h = record {
+  some = omega arith;
+  few = omega arith;
+  rows = λ r k. absurd (nowhere (rw (rest_end ns i h) at k));
 }
-  where
-    gone : (s : ℕ) → top ≤ s → In s (states (rows_in ns)) → ⊥
-    gone s l i =
-        let k = state_small ns f s i in
-        entered_only ns into m s k (h s l k) (λ z. omega (arith, z)) i
+
+-- one row more, taken before those
+pub below_more : (ns : List ℤ) (i k t u : ℕ) → i + 1 ≡ k → i * 4 + 3 < length ns → Below (rest ns k) t
+    → t ≤ u → u ≤ 1024 → (row_at ns i).to < u → Below (rest ns i) u
+below_more ns i k t u e l b m n o = record {
+  some = omega (arith, b.some);
+  few = n;
+  rows = λ r j. ⊎_elim
+      (λ q. omega (arith, o, ap (λ (x : Row). x.to) q))
+      (λ j. omega (arith, m, b.rows r (rw e at j)))
+      (where_in (rw (rest_cons ns i l) at j));
+}
+
+pub below_topped : {rs : List Row} {top : ℕ} → Below rs top → Topped rs top
+below_topped {rs} b = record {
+  some = b.some;
+  few = b.few;
+  all = λ s i. ⊎_elim
+      (λ e. omega (arith, e, b.some))
+      (λ k. omega (arith, b.rows k.0 k.1, k.2))
+      (in_states rs s i);
+}

@@ -1,5 +1,5 @@
 // What shrinking looks up of a table, and what it sees of one state.
-ghost use Rattle.std.specs.Prelude.{◌≡◌, false, ℕ, ◌/◌, ◌<◌, ◌≤◌, length, get_or};
+ghost use Rattle.std.specs.Prelude.{◌≡◌, false, ◌/◌, ◌<◌, ◌≤◌, length};
 ghost use mathlib.Core.Option.{none};
 ghost use Rattle.paper.specs.Rows.{rows_in, accepting};
 ghost use Rattle.paper.specs.Checks.{shape, split};
@@ -31,15 +31,18 @@ pub struct Faces<'a> {
     ghost whole: { split (coded none rows.numbers.now) ≡ false },
 }
 
-// One more than the last place that holds a number other than 0, or 1.
-fn top(into: &[u16; 1024]) -> usize
-    ensures within { (1 ≤ result) × (result ≤ 1024) }
-    ensures past { (s : ℕ) → result ≤ s → s < 1024 → get_or into.now s 0 ≡ 0 }
+// One more than the highest state.
+fn top(rows: Rows) -> usize
+    ensures { Topped (rows_in rows.entry.numbers.now) result }
 {
-    match into.iter().rposition(|j| *j != 0) {
-        Some(s) => s + 1,
-        None => 1,
+    let mut top = 1;
+    for i in (0..rows.count()).rev() {
+        let to = rows.to(i);
+        if top <= to {
+            top = to + 1;
+        }
     }
+    top
 }
 
 impl<'a> Faces<'a> {
@@ -58,7 +61,7 @@ impl<'a> Faces<'a> {
             rows: few.rows,
             into,
             first,
-            top: top(into),
+            top: top(few.rows),
         }
     }
 

@@ -21,10 +21,9 @@ use Rattle.merging.proofs.Equal.{equal_eq, eq_equal}
 use Rattle.merging.proofs.States.{rows_of_in, rows_of_state}
 use Rattle.merging.proofs.Ruled.{rows_climb}
 use Rattle.shrink_alike.specs.Faces.{mark_in, production_at, counted, like, hash, sign}
-use Rattle.shrink_slots.specs.Slots.{Open, Stops, Stands}
+use Rattle.shrink_slots.specs.Slots.{Stops, Stands}
 use Rattle.shrink_alike.specs.States.{State, Topped}
-use Rattle.shrink_classes.specs.Classes.{Like, Settled, From, Classed, Chosen, Classes}
-use Rattle.shrink_alike.proofs.Alike.{hash_small}
+use Rattle.shrink_classes.specs.Classes.{Like, Settled, From, Classed, Chosen}
 use Rattle.shrink_slots.proofs.Slotted.{
   empty_all,
   empty_put,
@@ -55,10 +54,6 @@ module _ (mode : Mode) (t : Table) where
   sign_like : (mark : ℕ → ℕ) (a b : ℕ) → Like mode t mark a b → sign mode t mark a ≡ sign mode t mark b
   unfolding sign
   sign_like mark a b w = rw (w.production, w.rows)
-
-  pub sign_small : (mark : ℕ → ℕ) (s : ℕ) → sign mode t mark s < 65521
-  unfolding sign
-  sign_small mark s = hash_small (code (production_at t s) % 65521) (counted mode t mark s) (omega arith)
 
   sign_agree : (C D : ℕ → ℕ) (u : ℕ) → ((o : ℕ × ℕ) → In o (rows_of t.rows u) → D o.1 ≡ C o.1)
       → sign mode t D u ≡ sign mode t C u
@@ -197,26 +192,7 @@ module _ (mode : Mode) (t : Table) where
         rw k.1 (pass_join slots class class' s (get_or slots c.at 0) K live room k.0 top tops c.at c.found
         refl d))
 
-  -- ---- no state at s; before the first; after the last
-
-  from_past : (s u : ℕ) → (State t s → ⊥) → From t s u → From t (s + 1) u
-  from_past s u dead h = compared s u
-      (λ l. (omega arith, h.1))
-      (λ e. absurd (dead (subst (State t) (sym e) h.1)))
-      (λ l. absurd (omega (arith, h.0)))
-
-  pub pass_skip : (slots class : List ℕ) (s : ℕ) → Classed mode t slots class (s + 1) → (State t s → ⊥)
-      → Classed mode t slots class s
-  pass_skip slots class s K dead = record {
-    settled = settled_as mode t (mark_in class) (From t (s + 1)) (From t s)
-        (λ u h. (omega (arith, h.0), h.1)) (λ u h. from_past s u dead h) K.settled;
-    highest = λ u h. K.highest u (from_past s u dead h);
-    stand = λ u h e. K.stand u (from_past s u dead h) e;
-    holders = λ i h d. let k = K.holders i h d in ((omega (arith, k.0.0), k.0.1), k.1);
-    room = omega (arith, K.room);
-    sized = K.sized;
-    classes = K.classes;
-  }
+  -- ---- before the first
 
   pub pass_start : (top : ℕ) → Topped t.rows top → (slots class : List ℕ) → Holds (λ s. 65535) slots
       → length class ≡ 1024 → Classed mode t slots class top
@@ -237,22 +213,3 @@ module _ (mode : Mode) (t : Table) where
     where
       past : (u : ℕ) → From t top u → ⊥
       past u d = omega (arith, d.0, tops.all u d.1)
-
-  pub pass_end : (slots class : List ℕ) → Classed mode t slots class 0 → Classes mode t class
-  pass_end slots class K = record {
-    settled = settled_as mode t (mark_in class) (From t 0) (State t)
-        (λ u h. h.1) (λ u h. (omega arith, h)) K.settled;
-    highest = λ u h. K.highest u (omega arith, h);
-    sized = K.classes;
-  }
-
-  -- the walk of the next state ends
-  pub pass_open : (top : ℕ) → Topped t.rows top → (slots class : List ℕ) (s : ℕ)
-      → Classed mode t slots class (s + 1) → Open slots
-  pass_open top tops slots class s K = record {
-    sized = K.sized;
-    small = λ i l d.
-        let k = K.holders i l d in
-        omega (arith, tops.few, tops.all (get_or slots i 0) k.0.1);
-    room = omega (arith, K.room);
-  }

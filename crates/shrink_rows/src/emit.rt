@@ -59,7 +59,8 @@ impl<'a> Numbered<'a> {
     // s is the lowest state of its class, where m is the next new number.
     fn is_head(&self, s: usize, m: usize) -> bool
         requires { (s < 1024)
-            × (m ≡ place_among (heads_of (mark_in self.now.class.now) (coded none self.now.faces.now.rows.numbers.now)) s) }
+            × (m ≡ place_among
+            (heads_of (mark_in self.now.class.now) (coded none self.now.faces.now.rows.numbers.now)) s) }
         ensures { Tells
             (Memᴰ s (heads_of (mark_in self.now.class.now) (coded none self.now.faces.now.rows.numbers.now))) result }
     {

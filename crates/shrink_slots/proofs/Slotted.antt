@@ -81,9 +81,6 @@ module _ (same : ℕ → ℕ → Bool) (slots : List ℕ) (s : ℕ) where
       (λ y. y)
       (λ n. absurd (false≢true (sym e ∙ sym (passes_held at (get_or slots at 0) false refl d (sym n)))))
 
-  pub walk_start : (g at : ℕ) → at ≡ slot g 0 → Walks same slots s g 0 at
-  walk_start g at e = record { near = omega arith; stands = e; before = λ e l. absurd (omega arith) }
-
 module _ {same : ℕ → ℕ → Bool} {slots : List ℕ} {s g d at : ℕ} (w : Walks same slots s g d at)
     (p : passes same slots s at ≡ true) where
   walk_past : (e : ℕ) → e < d + 1 → passes same slots s (slot g e) ≡ true

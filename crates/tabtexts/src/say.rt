@@ -1,41 +1,23 @@
 // The lines that are printed for a text.
-use paper::{Reading, Refusal};
+use paper::Refusal;
 use std::io;
 
 // The name of a text, what `tabrep` prints for it, and where text in finds a line out of form.
 pub fn answer(rt: &impl Print, name: &[u8], text: &[u8]) -> io::Result<()> {
     report(rt, name, text)?;
-    let mut rows = [0i32; 16384];
-    bad(rt, name, text_in::text_in(text, &mut rows))
+    let mut rows = [0; 16384];
+    if let Err(Refusal::Text(at)) = text_in::text_in(text, &mut rows) {
+        rt.write_all(name)?;
+        println!(rt; ", bad line at: {at}")?;
+    }
+    Ok(())
 }
 
+// The name of a text and what `tabrep` prints for it.
 pub fn report(rt: &impl Print, name: &[u8], text: &[u8]) -> io::Result<()> {
     rt.write_all(name)?;
     rt.print(": ")?;
-    let mut out = [0u8; 64];
+    let mut out = [0; 64];
     let count = report::report(text, &mut out);
     rt.write_all(&out[..count])
-}
-
-fn bad(rt: &impl Print, name: &[u8], reading: Reading) -> io::Result<()> {
-    match reading {
-        Reading::Read {
-            prod0: _,
-            k: _,
-            rows: _,
-        } => Ok(()),
-        Reading::Refused(refusal) => offset(rt, name, refusal),
-    }
-}
-
-fn offset(rt: &impl Print, name: &[u8], refusal: Refusal) -> io::Result<()> {
-    match refusal {
-        Refusal::Text(at) => line(rt, name, at),
-        _ => Ok(()),
-    }
-}
-
-fn line(rt: &impl Print, name: &[u8], at: usize) -> io::Result<()> {
-    rt.write_all(name)?;
-    println!(rt; ", bad line at: {at}")
 }

@@ -1,11 +1,10 @@
 -- What text out answers, check by check. Assumes nothing.
-use Prim.Native.Nat.{ℕ, ◌%◌, ◌<◌, ◌≤◌}
+use Prim.Native.Nat.{ℕ, ◌<◌, ◌≤◌}
 use mathlib.Core.Path.{◌≡◌, ap, sym, ◌∙◌}
-use mathlib.Core.Bool.{true, false, not}
+use mathlib.Core.Bool.{true, false}
 use mathlib.Core.List.{List, [], ◌∷◌, ◌++◌, append_assoc}
 use native.Mathlib.Omega.{arith}
-use borrow.Author.Tests.{lt-ltb, le-ltb, ltb-false}
-use lib.Dec.{eqb, ltb}
+use borrow.Author.Tests.{lt-ltb, le-ltb}
 use lib.ListN.{length}
 use lib.IntN.{ℤ, pos}
 use Rattle.std.specs.Prelude.{Ok, Err, Option}
@@ -15,7 +14,6 @@ use Rattle.paper.specs.Answers.{Ruling, accept, refuse, number, detail, Writes}
 use Rattle.paper.specs.Checks.{every, row_fits, row_slice, range, plain}
 use Rattle.paper.specs.Text.{text, text_out, write, head_form}
 use Rattle.paper.specs.declared.Refusal.{Refusal}
-use Rattle.laws.proofs.Every.{neither}
 use Rattle.laws.proofs.Writing as writing
 use Rattle.laws.proofs.Refusals.{refuse_accept}
 use Rattle.rows.proofs.Rest.{by_test}
@@ -67,11 +65,6 @@ pub record Ranged (p : ℤ) (k : ℕ) (ns : List ℤ) : Type 0 where
 pub in_range : (p : ℤ) (k : ℕ) (ns : List ℤ) → range (table p k ns) ≡ false → Ranged p k ns
 in_range p k ns e =
     let b = bounded (table p k ns) e in record { prod0 = b.prod0; few = b.k; rows = rows_fit (table p k ns) e }
-
--- a row slice that is taken has at most 16,384 numbers
-pub in_slice : (ns : List ℤ) → row_slice ns ≡ false → length ns ≤ 16384
-unfolding row_slice
-in_slice ns e = ltb-false 16384 (length ns) (neither (not (eqb (length ns % 4) 0)) (ltb 16384 (length ns)) e).1
 
 -- the head and the lines are the text
 pub text_parts : (p : ℤ) (k : ℕ) (ns : List ℤ) (root : Option Production) → Passes (plain (table p k ns)) →

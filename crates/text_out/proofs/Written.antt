@@ -7,7 +7,7 @@ use lib.ListN.{length, length-append}
 use lib.IntN.{ℤ, pos}
 use Rattle.paper.specs.Words.{bytes}
 use Rattle.paper.specs.Text.{digits, decimal, write, head_form, row_form}
-use Rattle.text_laws.specs.Put.{put}
+use Rattle.text_laws.specs.Put.{put, Puts}
 use Rattle.text_out.specs.declared.writing.Writer.{Writer}
 use Rattle.text_out.specs.Added.{Adds}
 use Rattle.text_laws.specs.Written.{head_text}
@@ -36,6 +36,10 @@ module _ {a b : Writer} {r : ℕ} {x : List ℕ} (p : Adds a b r x) where
     long = p.long;
     same = p.same;
   }
+
+  -- what a caller that lent the output knows of it
+  pub adds_puts : {new : List ℕ} → new ≡ b.out.now → Puts a.out.now a.at r x new b.at
+  adds_puts e = record { place = p.place; within = p.within; holds = e ∙ p.holds }
 
 -- the parts of a line, grouped as they are written and as its form has them
 head_grouped : (w p s n e l : List ℕ) → ((w ++ p) ++ (s ++ n)) ++ (e ++ l) ≡ (w ++ (p ++ (s ++ (n ++ (e ++ []))))) ++ l

@@ -1,12 +1,11 @@
 -- Reading what was written gives the same table, number for number. Assumes nothing.
-use Prim.Native.Nat.{ℕ, zero, suc, ◌+◌, ◌*◌, ◌%◌, ◌/◌, ◌<◌, ◌≤◌}
-use mathlib.Core.Path.{◌≡◌, refl, ap, subst, ◌∙◌}
-use mathlib.Core.Bool.{true, false, not, ◌||◌}
+use Prim.Native.Nat.{ℕ, zero, suc, ◌+◌, ◌*◌, ◌/◌, ◌<◌, ◌≤◌}
+use mathlib.Core.Path.{◌≡◌, refl, ap, sym, subst, ◌∙◌}
+use mathlib.Core.Bool.{true, false, ◌||◌}
 use mathlib.Core.Option.{some}
 use mathlib.Core.List.{List, [], ◌∷◌, ◌++◌}
 use native.Mathlib.Omega.{arith}
-use native.Mathlib.Nat.{div-add-mod'}
-use borrow.Author.Tests.{ne_eqb, le-ltb, eqb-true, not-false}
+use borrow.Author.Tests.{ne_eqb, le-ltb}
 use lib.Dec.{eqb, ltb}
 use lib.ListN.{length}
 use lib.IntN.{ℤ, pos, negsuc}
@@ -43,7 +42,8 @@ use Rattle.rows.proofs.Fits.{Fit, fit}
 use Rattle.text_pieces.proofs.Numbers.{digit_of}
 use Rattle.text_trips.proofs.Decimal.{Digits, are_digits}
 use Rattle.text_laws.proofs.Kept.{production_kept, row_kept, numbers_kept}
-use Rattle.text_out.proofs.Out.{Ranged, in_range, in_slice}
+use Rattle.text_out.proofs.Out.{Ranged, in_range}
+use Rattle.row_checks.proofs.Judged.{measured}
 use Rattle.text_in.proofs.Parted.{line_read}
 use Rattle.text_trips.proofs.Reread.{reread_head, reread_row}
 use Rattle.text_trips.proofs.Back.{passes}
@@ -144,11 +144,7 @@ lines_reread p k m ns h n =
     )
 
 whole_rows : (ns : List ℤ) → row_slice ns ≡ false → length ns ≡ length ns / 4 * 4
-unfolding row_slice
-whole_rows ns e =
-    let h = (neither (not (eqb (length ns % 4) 0)) (ltb 16384 (length ns)) e).0 in
-    let z = eqb-true (length ns % 4) 0 (not-false (eqb (length ns % 4) 0) h) in
-    omega (arith, div-add-mod' (length ns) 4)
+whole_rows ns e = sym (measured ns e).fours
 
 -- what an accepted text out says of its input
 record Written (p : ℤ) (k : ℕ) (ns : List ℤ) (t : List ℕ) : Type 0 where
@@ -176,7 +172,7 @@ unfolding text_in little_room
 written_is_read p k ns wide t room e h =
     let w = written p k ns wide t e in
     let q = lines_reread p k (length ns / 4) ns (in_range p k ns w.ranged) (whole_rows ns w.slice) in
-    let few : length (rows_in ns) ≤ 4096 = omega (arith, length_rows ns, in_slice ns w.slice) in
+    let few : length (rows_in ns) ≤ 4096 = omega (arith, length_rows ns, (measured ns w.slice).few) in
     let r : read_lines (lines t) ≡ accept (table p k ns) = rw (← w.is) q in
     rw (le-ltb room 16384 h, r, le-ltb 4096 (length (rows_in ns)) few, w.ranged, w.ordered)
 

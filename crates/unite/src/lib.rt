@@ -1,125 +1,86 @@
 // Document 01, module 3: unite.
 #![tactic(auto)]
 
-ghost use Rattle.std.specs.Prelude.{◌≤◌, length};
-ghost use Rattle.paper.specs.Rows.{rows_in, table};
+ghost use Rattle.std.specs.Prelude.{◌≡◌, ◌≤◌, length};
+ghost use Rattle.paper.specs.Rows.{accepting, rows_in, table};
 ghost use Rattle.paper.specs.Answers.{Makes};
-ghost use Rattle.paper.specs.Checks.{first, tree};
 ghost use Rattle.paper.specs.Unite.{united, unite};
-ghost use Rattle.rows.specs.Places.{uncoded};
-ghost use Rattle.unite_taking.specs.Taking.{Treed, Overflows, Refuses, joining};
-ghost use Rattle.unite.specs.Whole.{Passes, Sized};
+ghost use Rattle.rows.specs.Places.{given};
+ghost use Rattle.unite_taking.specs.Taking.{Overflows, Refuses, joining};
 
-use paper::{Making, Mode, Refusal};
-use row_checks::Verdict;
+use grow::Growing;
+use paper::{Heading, Mode, Production, Refusal, Table};
 use rows::numbers;
-use unite_meet::Meet;
-use unite_scan::Scan;
-use unite_taking::Union;
+use ruled::Tree;
+use unite_taking::TreeRows;
 
-// The rows do not fit: CLASH, wherever it stands, comes before 14.
-fn full(mode: Mode, a: &[i32], b: &[i32]) -> Making
-    requires { Treed a.now × Treed b.now × Overflows mode (rows_in a.now) (rows_in b.now) }
-    ensures { Refuses mode (rows_in a.now) (rows_in b.now) result }
+// The production of state 0 of a table that passed the checks 1 to 7.
+#[tactic(auto, using(rows::proofs::Signed::kept, unite_taking::proofs::Passing::prod0_in))]
+fn root_production(lent: Tree) -> Option<Production>
+    ensures { given result ≡ accepting lent.entry.table.prod0 }
 {
-    let mut map = [0u16; 1024];
-    let found = unite_scan::clash(mode, a, b, &mut map);
-    match found {
-        Scan::Clash(p, q) => Making::Refused(Refusal::Clash(p, q)),
-        Scan::Free => Making::Refused(Refusal::Full),
-    }
+    numbers::accepting(lent.table.prod0)
 }
 
-// The second's rows taken into an array with the first's, which begin at row 128, and the rows at the front of the
-// output.
-fn joined(mode: Mode, code: usize, k: usize, a: &[i32], b: &[i32], out: &mut [i32]) -> Making
-    requires { Treed a.now × Treed b.now × (code ≤ 65536) × (16384 ≤ length out.old) }
-    ensures { Makes (joining mode (uncoded code) k (rows_in a.now) (rows_in b.now))
-        result out.old out.new }
+// The rows do not fit: CLASH, wherever it stands, comes before 14.
+#[tactic(auto, using(counts::proofs::Arrays::clear, crate::proofs::Outcomes::full_refuses))]
+fn full(mode: Mode, first: TreeRows, second: TreeRows) -> Result<Heading, Refusal>
+    requires { Overflows mode (rows_in first.rows.numbers.now) (rows_in second.rows.numbers.now) }
+    ensures { Refuses mode (rows_in first.entry.rows.numbers.now) (rows_in second.entry.rows.numbers.now) result }
 {
-    let mut buf = [0i32; 4608];
     let mut map = [0u16; 1024];
-    grow::copy_rows(a, &mut buf, 128);
-    let union = unite_taking::take_rows(mode, &mut buf, 128, a.len() / 4, b, &mut map);
-    match union {
-        Union::Clash(p, q) => Making::Refused(Refusal::Clash(p, q)),
-        Union::Full => full(mode, a, b),
-        Union::Rows { lo, rows } => grow::finish(&buf, lo, rows, code, k, out),
+    unite_scan::clash(mode, first, second, &mut map)?;
+    Err(Refusal::Full)
+}
+
+// The second's rows taken into the first's, and the rows that come of it at the front of the output.
+fn joined(
+    mode: Mode,
+    prod0: Option<Production>,
+    k: usize,
+    first: TreeRows,
+    second: TreeRows,
+    out: &mut [i32],
+) -> Result<Heading, Refusal>
+    requires { 16384 ≤ length out.old }
+    ensures { Makes (joining mode (given prod0) k (rows_in first.entry.rows.numbers.now)
+        (rows_in second.entry.rows.numbers.now)) result out.old out.new }
+{
+    let mut growing = Growing::of(first.rows);
+    let mut map = [0u16; 1024];
+    match unite_taking::take_rows(mode, &mut growing, second, &mut map) {
+        Ok(()) => Ok(growing.finish(prod0, k, out)),
+        Err(Refusal::Full) => full(mode, first, second),
+        Err(clash) => Err(clash),
     }
 }
 
 // Two trees: state 0 first, then the rows, then 14.
-fn united(
-    mode: Mode,
-    prod0a: i32,
-    ka: usize,
-    a: &[i32],
-    prod0b: i32,
-    kb: usize,
-    b: &[i32],
-    out: &mut [i32],
-) -> Making
-    requires { Passes prod0a ka a.now × Passes prod0b kb b.now × (16384 ≤ length out.old) }
-    ensures { Makes (united mode (table prod0a ka a.now) (table prod0b kb b.now))
+#[tactic(auto, unfolding(paper::specs::Unite::united))]
+fn united(mode: Mode, first: Tree, second: Tree, out: &mut [i32]) -> Result<Heading, Refusal>
+    requires { 16384 ≤ length out.old }
+    ensures { Makes (united mode
+        (table first.entry.table.prod0 first.entry.table.k first.entry.table.rows.now)
+        (table second.entry.table.prod0 second.entry.table.k second.entry.table.rows.now))
         result out.old out.new }
 {
-    let root = unite_meet::root(mode, numbers::coded(prod0a), numbers::coded(prod0b));
-    match root {
-        Meet::Clash(p, q) => Making::Refused(Refusal::Clash(p, q)),
-        Meet::Code(code) => joined(mode, code, unite_meet::united_k(mode, ka, kb), a, b, out),
-    }
-}
-
-// A tree and a table: 2 to 7 for the second.
-fn with_second(
-    mode: Mode,
-    prod0a: i32,
-    ka: usize,
-    a: &[i32],
-    prod0b: i32,
-    kb: usize,
-    b: &[i32],
-    out: &mut [i32],
-) -> Making
-    requires { Passes prod0a ka a.now × Sized b.now × (16384 ≤ length out.old) }
-    ensures { Makes (first (tree (table prod0b kb b.now))
-        (united mode (table prod0a ka a.now) (table prod0b kb b.now)))
-        result out.old out.new }
-{
-    let verdict = ruled::verdict::tree(prod0b, kb, b);
-    match verdict {
-        Verdict::Refused(f) => Making::Refused(f),
-        Verdict::Pass => united(mode, prod0a, ka, a, prod0b, kb, b, out),
-    }
+    let prod0 = unite_meet::root(mode, root_production(first), root_production(second))?;
+    let k = unite_meet::united_k(mode, first.table.k, second.table.k);
+    joined(mode, prod0, k, first.into(), second.into(), out)
 }
 
 // Unite: 1 for everything, 2 to 7 for the first table, 2 to 7 for the second, then 8, 14.
-pub fn unite(
-    mode: Mode,
-    prod0a: i32,
-    ka: usize,
-    a: &[i32],
-    prod0b: i32,
-    kb: usize,
-    b: &[i32],
-    out: &mut [i32],
-) -> Making
-    ensures { Makes (unite mode prod0a ka a.now prod0b kb b.now
-        (length out.old))
+pub fn unite(mode: Mode, first: Table, second: Table, out: &mut [i32]) -> Result<Heading, Refusal>
+    ensures { Makes (unite mode first.entry.prod0 first.entry.k first.entry.rows.now
+        second.entry.prod0 second.entry.k second.entry.rows.now (length out.old))
         result out.old out.new }
 {
-    if row_checks::row_slice(a) {
-        return Making::Refused(Refusal::Length);
-    }
-    if row_checks::row_slice(b) {
-        return Making::Refused(Refusal::Length);
-    }
+    let first_measured = row_checks::sized(first)?;
+    let second_measured = row_checks::sized(second)?;
     if out.len() < 16384 {
-        return Making::Refused(Refusal::Length);
+        return Err(Refusal::Length);
     }
-    let verdict = ruled::verdict::tree(prod0a, ka, a);
-    match verdict {
-        Verdict::Refused(f) => Making::Refused(f),
-        Verdict::Pass => with_second(mode, prod0a, ka, a, prod0b, kb, b, out),
-    }
+    let first_tree = ruled::verdict::tree(first_measured)?;
+    let second_tree = ruled::verdict::tree(second_measured)?;
+    united(mode, first_tree, second_tree, out)
 }

@@ -68,7 +68,8 @@ fn look_up(
     }
 }
 
-// All rows of the second, in order; the map holds the match of each of its states.
+// All rows of the second, in order; the map holds the match of each of its states. One walk for this and for `take_rows`
+// would be handed each step as a closure with a contract, longer than the loop.
 pub fn clash(
     mode: Mode,
     first: TreeRows,

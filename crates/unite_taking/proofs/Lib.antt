@@ -1,3 +1,4 @@
 pub mod Steps
 pub mod Ongoing
 pub mod Rowed
+pub mod Passing

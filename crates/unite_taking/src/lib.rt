@@ -1,10 +1,10 @@
 // The rows of the second table taken into rows that grow, in order.
 #![tactic(auto)]
 
-ghost use Rattle.std.specs.Prelude.{◌<◌, ◌≤◌};
+ghost use Rattle.std.specs.Prelude.{◌≡◌, ◌<◌, ◌≤◌};
 ghost use Rattle.paper.specs.Rows.{find, rows_in};
 ghost use Rattle.rows.specs.Places.{given};
-ghost use Rattle.grow_laws.specs.Held.{row_held, Missed, Giving};
+ghost use Rattle.grow_laws.specs.Held.{row_held, Missed};
 ghost use Rattle.grow.specs.Seen.{seen, rows_of};
 ghost use Rattle.trees.proofs.Tree.{Tree};
 ghost use Rattle.counts.specs.Arrays.{Clear};
@@ -22,6 +22,20 @@ const MOST_ROWS: usize = 1023;
 pub struct TreeRows<'a> {
     pub rows: Rows<'a>,
     ghost treed: { Treed rows.numbers.now },
+}
+
+impl<'a> From<ruled::Tree<'a>> for TreeRows<'a> {
+    ghost from_gives = { λ lent result. result.rows.numbers.now ≡ lent.table.rows.now };
+
+    // The rows of a table that passed the checks 1 to 7.
+    #[tactic(auto, using(crate::proofs::Passing::rows_passed, crate::proofs::Passing::treed))]
+    fn from(lent: ruled::Tree<'a>) -> TreeRows<'a> {
+        TreeRows {
+            rows: Rows {
+                numbers: lent.table.rows,
+            },
+        }
+    }
 }
 
 // A row that the first does not have: into a new state, unless there are 1,023 rows.
@@ -51,7 +65,7 @@ fn matched(
     i: usize,
     production: Option<Production>,
 ) -> Result<State, Refusal>
-    requires { Giving (seen growing.old) growing.old.n i }
+    requires { Tree (rows_of growing.old) × (i < growing.old.n) }
     ensures { Matches mode growing.new (rows_of growing.old) (given production)
         (row_held (seen growing.old) growing.old.n i) result }
 {

@@ -1,10 +1,12 @@
--- `report::report` meets its contract: a text that is too long, or the report on its table. Assumes nothing.
-use native.Mathlib.Omega.{arith}
-use Rattle.report.proofs.Reported.{prints, prints_as, too_long, by_text}
+-- `report::report` meets its contract: the lines, or a refusal. Assumes nothing.
+use Rattle.std.proofs.Common.{◌∙◌, sym}
+use Rattle.report.proofs.Reported.{prints, printed_lines, printed_refusal, printed_report}
 use Rattle.report.proofs.report.Goals as goal
 
-pub returns-then-input-gt65536 : goal.returns-then-input-gt65536
-returns-then-input-gt65536 c = prints c.put_refused.ensures (too_long c.args.input.now (omega arith))
+pub returns-in-Ok : goal.returns-in-Ok
+returns-in-Ok c =
+    prints c.put_lines.ensures (printed_lines (sym c.in-Ok.ensures) ∙ printed_report c.args.input.now)
 
-pub returns : goal.returns
-returns c = prints_as c.with_table.ensures (by_text c.args.input.now (omega arith))
+pub returns-in-Err : goal.returns-in-Err
+returns-in-Err c =
+    prints c.put_refused.ensures (printed_refusal (sym c.in-Err.ensures) ∙ printed_report c.args.input.now)

@@ -8,7 +8,8 @@ use Rattle.shrink_places.proofs.places.Goals as goal
 use Rattle.shrink_places.proofs.places.Goals.{then-is_state, else-is_state}
 
 pub loop-s-init : goal.loop-s-init
-loop-s-init c = count_start (coded none c.args.faces.now.rows.numbers.now) c.args.class.now c.args.number.now c.requires.1
+loop-s-init c =
+    count_start (coded none c.args.faces.now.rows.numbers.now) c.args.class.now c.args.number.now c.requires.1
 
 pub place-m-requires : goal.place-m-requires
 place-m-requires c =
@@ -30,7 +31,8 @@ loop-s-preserved c =
           c.loop-s.m w.place-m.result c.loop-s.s c.loop-s.invariant
           (c.is_state.ensures.yes w.if-is_state.true) w.place-m.ensures)
       | else-is_state w ↦
-          rw (w.number-is, w.m-is) (count_skip t c.args.class.now c.loop-s.number c.loop-s.m c.loop-s.s c.loop-s.invariant
+          rw (w.number-is, w.m-is) (count_skip t c.args.class.now c.loop-s.number c.loop-s.m c.loop-s.s
+          c.loop-s.invariant
           (c.is_state.ensures.no w.if-is_state.false))
     ]
 

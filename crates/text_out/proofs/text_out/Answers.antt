@@ -8,8 +8,8 @@ use Rattle.rows.specs.Places.{given}
 use Rattle.std.proofs.lemmas.Result.{err_from_is_err_and}
 use Rattle.text_out.proofs.Written.{adds_on, adds_as}
 use Rattle.laws.proofs.Writing.{refused}
-use Rattle.row_checks.proofs.Judged.{plain_bounded, passes, passes_first}
-use Rattle.text_out.proofs.Out.{written, out_sized, out_room, out_refused, out_text, in_slice, text_parts}
+use Rattle.row_checks.proofs.Judged.{measured, plain_bounded, passes, passes_first}
+use Rattle.text_out.proofs.Out.{written, out_sized, out_room, out_refused, out_text, text_parts}
 use Rattle.text_out.proofs.text_out.Goals as goal
 
 pub returns-in_err-sized : goal.returns-in_err-sized
@@ -38,7 +38,7 @@ put_rows-requires c =
     let t = c.args.table in
     let same : c.rows.result.numbers.now ≡ t.rows.now =
     c.rows.ensures ∙ ap (λ (x : Table). x.rows.now) c.in_ok-checked.ensures.same in
-    let few = in_slice t.rows.now ((passes_first (passes c.in_ok-sized.ensures.judges)).0) in
+    let few = (measured t.rows.now (passes_first (passes c.in_ok-sized.ensures.judges)).0).few in
     omega (arith, few, ap length same)
 
 pub returns : goal.returns
@@ -51,7 +51,7 @@ returns c =
     let root : given c.root.result ≡ accepting t.prod0 =
     c.root.ensures ∙ ap (λ (x : Table). accepting x.prod0) c.in_ok-checked.ensures.same in
     let all = adds_on c.put_head.ensures (omega arith) c.put_rows.ensures in
-    let few = in_slice t.rows.now whole in
+    let few = (measured t.rows.now whole).few in
     let kept = sym (c.put_rows.ensures.same ∙ c.put_head.ensures.same) in
     written {room = 262144} (out_text t.prod0 t.k t.rows.now _ whole c.if-out-lt262144.false passed) refl
     (adds_as all (omega (arith, few, ap length same)) (rw same (text_parts t.prod0 t.k t.rows.now c.root.result passed root)))

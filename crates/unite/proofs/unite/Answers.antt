@@ -1,66 +1,50 @@
-use mathlib.Core.Path.{◌≡◌, sym, ◌∙◌}
-use mathlib.Core.Bool.{false}
-use Rattle.paper.specs.Rows.{table}
-use Rattle.paper.specs.Checks.{row_slice}
-use Rattle.rows.proofs.Signed.{same}
-use Rattle.unite.proofs.Passing.{sized}
-use Rattle.unite.proofs.Outcomes.{first_refused, second_refused, room_refused, all_checks, checks_refuse, checks_pass}
-use Rattle.unite.proofs.Outcomes.{judges_as, passes_as, second_as}
+use Rattle.std.proofs.lemmas.Result.{err_from_is_err_and}
+use Rattle.row_checks.proofs.Judged.{passes}
+use Rattle.unite.proofs.Outcomes.{at_first, at_second, at_room, at_first_tree, at_second_tree, past_checks}
 use Rattle.unite.proofs.unite.Goals as goal
 
-pub returns-then-row_slice : goal.returns-then-row_slice
-returns-then-row_slice c = first_refused _ _ _ _ _ _ _ _ _ (sym c.row_slice.ensures ∙ c.if-row_slice.true)
+pub returns-in_err-first_measured : goal.returns-in_err-first_measured
+returns-in_err-first_measured c =
+    let p = err_from_is_err_and c.from_residual.result c.from_residual.ensures.1 in
+    rw (p.1, p.2) (at_first _ _ _ _ _ _ _ _ _ _ c.in_err-first_measured.ensures.judges)
 
-pub returns-then-row_slice-2 : goal.returns-then-row_slice-2
-returns-then-row_slice-2 c =
-    let first_left : row_slice c.args.a.now ≡ false = sym c.row_slice.ensures ∙ c.if-row_slice.false in
-    second_refused _ _ _ _ _ _ _ _ _ first_left
-    (sym c.row_slice-2.ensures ∙ c.if-row_slice-2.true)
+pub returns-in_err-second_measured : goal.returns-in_err-second_measured
+returns-in_err-second_measured c =
+    let r = c.from_residual-in_err-second_measured in
+    let p = err_from_is_err_and r.result r.ensures.1 in
+    rw (p.1, p.2)
+    (at_second _ _ _ _ _ _ _ _ _ (passes c.in_ok-first_measured.ensures.judges) _
+    c.in_err-second_measured.ensures.judges)
 
 pub returns-then-out-lt16384 : goal.returns-then-out-lt16384
 returns-then-out-lt16384 c =
-    let first_left : row_slice c.args.a.now ≡ false = sym c.row_slice.ensures ∙ c.if-row_slice.false in
-    let second_left : row_slice c.args.b.now ≡ false = sym c.row_slice-2.ensures ∙ c.if-row_slice-2.false in
-    room_refused _ _ _ _ _ _ _ _ _ first_left second_left c.if-out-lt16384.true
+    at_room _ _ _ _ _ _ _ _ _ (passes c.in_ok-first_measured.ensures.judges)
+    (passes c.in_ok-second_measured.ensures.judges) c.if-out-lt16384.true
 
-pub tree-verdict-requires : goal.tree-verdict-requires
-tree-verdict-requires c =
-    let first_left : row_slice c.args.a.now ≡ false = sym c.row_slice.ensures ∙ c.if-row_slice.false in
-    (sized _ first_left).few
+pub returns-in_err-first_tree : goal.returns-in_err-first_tree
+returns-in_err-first_tree c =
+    let r = c.from_residual-in_err-first_tree in
+    let p = err_from_is_err_and r.result r.ensures.1 in
+    rw (p.1, p.2)
+    (at_first_tree _ _ _ _ _ _ _ _ _ (passes c.in_ok-first_measured.ensures.judges)
+    (passes c.in_ok-second_measured.ensures.judges) c.if-out-lt16384.false _
+    (rw c.in_ok-first_measured.ensures.same at c.in_err-first_tree.ensures.judges))
 
-pub with_second-requires : goal.with_second-requires
-with_second-requires c =
-    let first_left : row_slice c.args.a.now ≡ false = sym c.row_slice.ensures ∙ c.if-row_slice.false in
-    let second_left : row_slice c.args.b.now ≡ false = sym c.row_slice-2.ensures ∙ c.if-row_slice-2.false in
-    let a = c.args in (
-      passes_as a.ka a.a.now (sym (same a.prod0a c.ranges.prod0a)) (record {
-        sized = sized a.a.now first_left;
-        judged = judges_as a.ka a.a.now (same a.prod0a c.ranges.prod0a) c.in-Pass.is
-            c.tree-verdict.ensures;
-      }),
-      sized a.b.now second_left,
-      c.if-out-lt16384.false,
-    )
+pub returns-in_err-second_tree : goal.returns-in_err-second_tree
+returns-in_err-second_tree c =
+    let r = c.from_residual-in_err-second_tree in
+    let p = err_from_is_err_and r.result r.ensures.1 in
+    rw (p.1, p.2)
+    (at_second_tree _ _ _ _ _ _ _ _ _ (passes c.in_ok-first_measured.ensures.judges)
+    (passes c.in_ok-second_measured.ensures.judges) c.if-out-lt16384.false
+    (passes (rw c.in_ok-first_measured.ensures.same at c.in_ok-first_tree.ensures.judges)) _
+    (rw c.in_ok-second_measured.ensures.same at c.in_err-second_tree.ensures.judges))
 
-pub returns-in-Refused : goal.returns-in-Refused
-returns-in-Refused c =
-    let first_left : row_slice c.args.a.now ≡ false = sym c.row_slice.ensures ∙ c.if-row_slice.false in
-    let second_left : row_slice c.args.b.now ≡ false = sym c.row_slice-2.ensures ∙ c.if-row_slice-2.false in
-    let a = c.args in
-    all_checks _ _ _ _ _ _ _ _ _ first_left second_left c.if-out-lt16384.false _ _
-    (checks_refuse (table a.prod0a a.ka a.a.now) _ a.out.now _
-    (judges_as a.ka a.a.now (same a.prod0a c.ranges.prod0a) c.in-Refused.is
-    c.tree-verdict.ensures))
-
-pub returns-in-Pass : goal.returns-in-Pass
-returns-in-Pass c =
-    let first_left : row_slice c.args.a.now ≡ false = sym c.row_slice.ensures ∙ c.if-row_slice.false in
-    let second_left : row_slice c.args.b.now ≡ false = sym c.row_slice-2.ensures ∙ c.if-row_slice-2.false in
-    let a = c.args in
-    all_checks _ _ _ _ _ _ _ _ _ first_left second_left c.if-out-lt16384.false _ _
-    (checks_pass (table a.prod0a a.ka a.a.now) _ a.out.now
-    (judges_as a.ka a.a.now (same a.prod0a c.ranges.prod0a) c.in-Pass.is
-    c.tree-verdict.ensures) _ _
-    (second_as a.mode a.ka a.kb a.a.now a.b.now _ a.out.now _
-    (same a.prod0a c.ranges.prod0a)
-    (same a.prod0b c.ranges.prod0b) c.with_second.ensures))
+pub returns : goal.returns
+returns c =
+    let a = c.in_ok-first_measured.ensures in
+    let b = c.in_ok-second_measured.ensures in
+    past_checks _ _ _ _ _ _ _ _ _ (passes a.judges) (passes b.judges) c.if-out-lt16384.false
+    (passes (rw a.same at c.in_ok-first_tree.ensures.judges))
+    (passes (rw b.same at c.in_ok-second_tree.ensures.judges)) _ _
+    (rw (c.in_ok-first_tree.ensures.same, a.same, c.in_ok-second_tree.ensures.same, b.same) at c.united.ensures)

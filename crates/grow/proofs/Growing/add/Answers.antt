@@ -13,7 +13,7 @@ invariant_of-self c =
     let a = c.args in
     let g = a.self.now in
     let h = adds (seen g) _ g.n a.i a.from.0 a.terminal.0 (given a.production) _ _ _ _ c.requires.0 c.requires.1
-    (search rules) (search rules) c.insert-self.ensures (search rules) (search rules) (search rules) (search rules) in
+    (search rules) (search rules) c.insert.ensures (search rules) (search rules) (search rules) (search rules) in
     record { laid = rw add-one h.laid }
 
 pub returns : goal.returns
@@ -22,7 +22,7 @@ returns c =
     let a = c.args in
     let g = a.self.now in (
       adds (seen g) _ g.n a.i a.from.0 a.terminal.0 (given a.production) _ _ _ _ c.requires.0 c.requires.1
-          (search rules) (search rules) c.insert-self.ensures (search rules) (search rules) (search rules)
+          (search rules) (search rules) c.insert.ensures (search rules) (search rules) (search rules)
           (search rules),
       refl,
     )

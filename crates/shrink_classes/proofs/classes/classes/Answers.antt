@@ -19,5 +19,6 @@ pub loop-s-preserved-then-is_state : goal.loop-s-preserved-then-is_state
 loop-s-preserved-then-is_state c =
     let f = c.args.faces.now in
     let e : c.loop-s.s ≡ c.loop-s.s - 1 + 1 = omega arith in
-    pass_more f.mode (table_of f) (shape_rows none (given f.prod0) 0 0 (rows_in f.rows.numbers.now) f.climbs) f.top f.topped c.loop-s.slots c.loop-s.class _ _ (c.loop-s.s - 1)
+    let climbs = shape_rows none (given f.prod0) 0 0 (rows_in f.rows.numbers.now) f.climbs in
+    pass_more f.mode (table_of f) climbs f.top f.topped c.loop-s.slots c.loop-s.class _ _ (c.loop-s.s - 1)
     (rw e at c.loop-s.invariant) (c.is_state.ensures.yes c.if-is_state.true) c.settle.ensures

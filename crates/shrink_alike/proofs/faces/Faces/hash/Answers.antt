@@ -15,7 +15,8 @@ pub loop-i-preserved : goal.loop-i-preserved
 loop-i-preserved c =
     let f = c.args.self.now in
     let w = c.loop-i.invariant in
-    let e = leaves_at f.rows.numbers.now c.args.s c.loop-i.i (omega arith) (sym c.from.ensures.0 ∙ c.if-from-s.false) in (
+    let e = leaves_at f.rows.numbers.now c.args.s c.loop-i.i (omega arith)
+    (sym c.from.ensures.0 ∙ c.if-from-s.false) in (
       stand_next w.0 f.indexed.0.passed e,
       omega arith,
       w.2 ∙ hash_next f.rows.numbers.now (mark_in c.args.class.now) c.args.s c.loop-i.i c.loop-i.r w.0 e _ _

@@ -9,8 +9,8 @@ use Rattle.shrink_alike.proofs.faces.Faces.like.Goals as goal
 use Rattle.shrink_alike.proofs.faces.Faces.like.Goals.{After-eq}
 
 -- what the code compares
-tested : (c : After-eq) → c.eq.result
-    ≡ same_production (production_at (table_of c.args.self.now) c.args.a) (production_at (table_of c.args.self.now) c.args.b)
+tested : (c : After-eq) → let t = table_of c.args.self.now in
+    c.eq.result ≡ same_production (production_at t c.args.a) (production_at t c.args.b)
 tested c =
     rw (← c.production-p.ensures, ← c.production.ensures)
     (c.eq.ensures ∙ same_given _ (λ p q. refl) c.production-p.result c.production.result)
@@ -19,7 +19,8 @@ pub returns-then-not-compared : goal.returns-then-not-compared
 returns-then-not-compared c =
     let f = c.args.self.now in
     let t = tested (goal.at.returns-then-not-compared c).After-eq in
-    rw (c.if-not-compared.true) (like_cut f.mode (given f.prod0) f.rows.numbers.now (mark_in c.args.class.now) c.args.a c.args.b
+    rw c.if-not-compared.true
+    (like_cut f.mode (given f.prod0) f.rows.numbers.now (mark_in c.args.class.now) c.args.a c.args.b
     (sym t ∙ c.if-eq.true)
     (rw c.production-p.ensures at (sym c.compared.ensures ∙ c.if-not-compared.true)))
 

@@ -2,10 +2,8 @@ use mathlib.Core.Option.{none}
 use Rattle.paper.specs.Rows.{accepting, table, rows_in}
 use Rattle.rows.proofs.Signed.{kept}
 use Rattle.row_checks.proofs.Judged.{bounded}
-use Rattle.counts.proofs.Arrays.{fitting}
 use Rattle.ruled.proofs.Passes.{ruled_passed}
 use Rattle.shrink_alike.proofs.Bare.{shape_rows, split_rows}
-use Rattle.shrink_alike.proofs.Entered.{topped}
 use Rattle.shrink_alike.proofs.faces.Faces.new.Goals as goal
 
 pub accepting-requires : goal.accepting-requires
@@ -29,8 +27,7 @@ invariant_of-result c =
         },
         c.requires.0,
       );
-      topped = topped t.rows.now c.args.into.now (rw c.few_rows-few.ensures at (fitting few.rows.passed few.few))
-          c.requires.0 c.top.result c.top.ensures.within.0 c.top.ensures.within.1 c.top.ensures.past;
+      topped = rw c.few_rows-few.ensures at c.top.ensures;
       climbs = shape_rows (accepting t.prod0) none t.k 0 (rows_in t.rows.now) r.shape;
       whole = split_rows (accepting t.prod0) none t.k 0 (rows_in t.rows.now) r.split;
     })

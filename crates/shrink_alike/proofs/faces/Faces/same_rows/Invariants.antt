@@ -9,4 +9,5 @@ abbrev pub invariant-loop-i : goal.invariant-loop-i
 invariant-loop-i l =
     Standing l.self.rows.numbers.now l.a l.i × Standing l.self.rows.numbers.now l.b l.j
     × (rows_alike l.self.rows.numbers.now (mark_in l.class) l.a l.b
-    ≡ same_rows (left l.self.rows.numbers.now (mark_in l.class) l.a l.i) (left l.self.rows.numbers.now (mark_in l.class) l.b l.j))
+    ≡ same_rows (left l.self.rows.numbers.now (mark_in l.class) l.a l.i)
+    (left l.self.rows.numbers.now (mark_in l.class) l.b l.j))

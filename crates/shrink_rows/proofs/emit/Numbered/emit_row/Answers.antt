@@ -31,7 +31,8 @@ put_row-requires c = (
 pub returns : goal.returns
 returns c =
     let n = c.args.self.now in
-    written_row c.args.out.now _ c.args.o (new_row n.faces.now.rows.numbers.now n.class.now n.number.now c.args.f c.args.i)
+    let r = new_row n.faces.now.rows.numbers.now n.class.now n.number.now c.args.f c.args.i in
+    written_row c.args.out.now _ c.args.o r
     _ _ _ _ c.requires.3 refl c.terminal.ensures.0
     (ap (λ (m : ℕ). get_or n.number.now m 0) c.to_mark.ensures.0)
     c.production.ensures c.put_row.ensures

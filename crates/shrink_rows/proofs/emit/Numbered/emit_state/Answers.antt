@@ -15,7 +15,8 @@ pub emit_row-requires : goal.emit_row-requires
 emit_row-requires c =
     let n = c.args.self.now in
     let f = n.faces.now in
-    let e = leaves_at f.rows.numbers.now c.args.h c.loop-i.i (omega arith) (sym c.from.ensures.0 ∙ c.if-from-h.false) in
+    let e = leaves_at f.rows.numbers.now c.args.h c.loop-i.i (omega arith)
+    (sym c.from.ensures.0 ∙ c.if-from-h.false) in
     let r = emit_room f.rows.numbers.now n.class.now n.number.now c.args.h c.args.f c.args.out.now c.loop-i.out c.args.at
     c.loop-i.o c.loop-i.i c.loop-i.invariant e f.whole in (
       c.requires.1,
@@ -28,7 +29,8 @@ pub loop-i-preserved : goal.loop-i-preserved
 loop-i-preserved c =
     let n = c.args.self.now in
     let f = n.faces.now in
-    let e = leaves_at f.rows.numbers.now c.args.h c.loop-i.i (omega arith) (sym c.from.ensures.0 ∙ c.if-from-h.false) in
+    let e = leaves_at f.rows.numbers.now c.args.h c.loop-i.i (omega arith)
+    (sym c.from.ensures.0 ∙ c.if-from-h.false) in
     emit_next f.rows.numbers.now n.class.now n.number.now c.args.h c.args.f c.args.out.now c.loop-i.out c.args.at
     c.loop-i.o c.loop-i.i c.loop-i.invariant e f.whole _
     (stand_next c.loop-i.invariant.stands f.indexed.0.passed e) c.emit_row.ensures

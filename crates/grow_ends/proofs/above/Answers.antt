@@ -1,9 +1,0 @@
-use borrow.Author.Rules.{rules}
-use Rattle.grow_laws.proofs.Viewed.{moved_up}
-use Rattle.grow_ends.proofs.above.Goals as goal
-
-pub returns : goal.returns
-returns c =
-    let a = c.args in
-    moved_up a.buf.now a.lo a.n a.p a.row (search rules) c.requires.0 c.requires.1 c.requires.2
-    c.insert_row.new.buf c.insert_row.ensures c.insert_row.auto.buf
