@@ -25,5 +25,5 @@ fn is_written(table: Table, text: &[u8]) -> bool {
     let mut bytes = [0; 262144];
     let answer = text_out::text_out(table, &mut bytes);
     let n = answer.unwrap_or(0);
-    slice::front(&bytes, n) == text && (n..bytes.len()).all(|i| bytes[i] == 0)
+    slice::front(&bytes, n) == text && slice::after(&bytes, n).iter().all(|byte| *byte == 0)
 }
