@@ -53,6 +53,15 @@ module _ (buf : List ℤ) (n : ℕ) (few : n ≤ 1023) (room : 4092 ≤ length b
 abbrev pub made_in : ℤ → ℕ → ℕ → ℕ → List ℤ → Made
 made_in p k n s buf = record { table = table p k (take (n * 4) buf); states = s }
 
+-- The next list is refused.
+pub join_refused : (p : ℤ) (k n s : ℕ) (a : List ℤ) (l : Lent) (r : Result Heading Refusal) (f : Refusal) (b c : List ℤ) → r ≡ Err f →
+    Holds (build l.production l.tokens l.lengths 16384) r b →
+    Holds (then (held (Ok (record { prod0 = p; k = k; rows = n; states = s })) a) (λ m. join_lent m l)) r c
+unfolding join_lent build_lent
+join_refused p k n s a l r f b c e h =
+    rw e (let g : refuse (number f) (detail f) ≡ build l.production l.tokens l.lengths 16384 =
+    ap (λ (x : Result Heading Refusal). held x b) (sym e) ∙ h.is in record { is = rw (← g); few = tt })
+
 module _ (p : ℤ) (k n s : ℕ) (a : List ℤ) (few : n ≤ 1023) (room : 4092 ≤ length a) where
   pub unite_as : (q : ℤ) (l m u : ℕ) (b : List ℤ) → m ≤ 1023 → 4092 ≤ length b →
       unite Intake p k (take (n * 4) a) q l (take (m * 4) b) 16384 ≡ unite_made (made_in p k n s a) (made_in q l m u b)
@@ -72,15 +81,6 @@ module _ (p : ℤ) (k n s : ℕ) (a : List ℤ) (few : n ≤ 1023) (room : 4092 
       rw (part_slice a n few room, le-ltb space 16384 h)
       (rw (slice_numbers (rows_in (take (n * 4) a)) (part_rows a n few room))
       (rw (table_numbers (table p k (take (n * 4) a)))))
-
-  -- the next list is refused
-  pub join_refused : (l : Lent) (r : Result Heading Refusal) (f : Refusal) (b c : List ℤ) → r ≡ Err f →
-      Holds (build l.production l.tokens l.lengths 16384) r b →
-      Holds (then (held (Ok (record { prod0 = p; k = k; rows = n; states = s })) a) (λ m. join_lent m l)) r c
-  unfolding join_lent build_lent
-  join_refused l r f b c e h =
-      rw e (let g : refuse (number f) (detail f) ≡ build l.production l.tokens l.lengths 16384 =
-      ap (λ (x : Result Heading Refusal). held x b) (sym e) ∙ h.is in record { is = rw (← g); few = tt })
 
   -- it is built, and then united
   pub join_built : (l : Lent) (q : ℤ) (j m u : ℕ) (b : List ℤ) → 4092 ≤ length b →

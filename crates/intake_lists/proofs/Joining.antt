@@ -1,10 +1,11 @@
 -- The lists joined one after the other: one turn, and its end. Assumes nothing.
-use mathlib.Core.Path.{◌≡◌, sym, ap, ◌∙◌}
+use mathlib.Core.Path.{◌≡◌, refl, sym, ap, ◌∙◌}
 use mathlib.Core.List.{List, [], ◌∷◌}
 use lib.IntN.{ℤ}
 use Rattle.std.specs.Prelude.{Result, Ok, Err}
 use Rattle.paper.specs.declared.Heading.{Heading}
 use Rattle.paper.specs.declared.Refusal.{Refusal}
+use Rattle.paper.specs.declared.Refusal.TheVariants as refusal
 use Rattle.paper.specs.Answers.{Ruling, then, Made}
 use Rattle.intake_lists.specs.Call.{Lent, build_lent, join_lent, join_all, unite_all}
 use Rattle.intake_lists.specs.Held.{held, Holds}
@@ -26,6 +27,11 @@ module _ (g : Ruling Made) (l : Lent) (ls : List Lent) where
 pub joined_all : (g : Ruling Made) (h : Heading) (a : List ℤ) → then (held (Ok h) a) (λ m. join_all m []) ≡ g
     → held (Ok h) a ≡ g
 joined_all g h a e = sym (join_none (held (Ok h) a)) ∙ e
+
+-- no list is no table
+pub none_refused : (ls : List Lent) → ls ≡ [] → (b : List ℤ) → Holds (unite_all ls) (Err refusal.Length) b
+unfolding unite_all
+none_refused ls e b = rw e (record { is = refl; few = tt })
 
 -- the first list is built, the others are joined to it
 module _ (l : Lent) (ls : List Lent) where

@@ -20,6 +20,12 @@ sum_cons : (c : ℕ) (cs : List ℕ) → sum (c ∷ cs) ≡ c + sum cs
 unfolding sum
 sum_cons c cs = refl
 
+-- no production, no list
+pub no_list : (ps : List ℤ) (cs ns ts : List ℕ) → length ps ≡ 0 → lists_in ps cs ns ts ≡ []
+unfolding lists_in
+no_list [] cs ns ts e = refl
+no_list (p ∷ ps) cs ns ts e = absurd (omega (arith, e))
+
 module _ (p : ℤ) (ps : List ℤ) (c : ℕ) (cs ns ts : List ℕ) where
   pub next_list : lists_in (p ∷ ps) (c ∷ cs) ns ts
       ≡ record { production = p; lengths = take c ns; tokens = take (sum (take c ns)) ts }

@@ -1,5 +1,5 @@
 // A table in an array of its own.
-ghost use Rattle.std.specs.Prelude.{◌≡◌, ◌*◌, take, Ok};
+ghost use Rattle.std.specs.Prelude.{◌≡◌, ◌*◌, length, take, Ok};
 ghost use Rattle.intake_lists.specs.Held.{Few};
 
 use paper::{Heading, Table};
@@ -41,6 +41,7 @@ impl Kept {
         ensures prod0 { result.prod0 ≡ self.now.small.heading.prod0 }
         ensures k { result.k ≡ self.now.small.heading.k }
         ensures rows { result.rows.now ≡ take (self.now.small.heading.rows * 4) self.now.buf }
+        ensures long { length self.now.buf ≡ 4096 }
     {
         let heading = self.small.heading;
         Table {

@@ -26,10 +26,11 @@ pub fn build_list(list: StringList, kept: &mut Kept, work: &mut Room) -> Result<
 
 // A table united to the one so far, in whose place the result is kept.
 pub fn unite_two(so_far: &mut Kept, second: Table, work: &mut Room) -> Result<(), Refusal>
-    ensures { Holds (unite Intake so_far.old.small.heading.prod0 so_far.old.small.heading.k
+    ensures unites { Holds (unite Intake so_far.old.small.heading.prod0 so_far.old.small.heading.k
         (take (so_far.old.small.heading.rows * 4) so_far.old.buf)
         second.entry.prod0 second.entry.k second.entry.rows.now 16384)
         (answered result so_far.new.small.heading) so_far.new.buf }
+    ensures long { length so_far.old.buf ≡ 4096 }
 {
     let united = unite::unite(Mode::Intake, so_far.lent(), second, work);
     let heading = united?;

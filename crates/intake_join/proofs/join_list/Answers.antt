@@ -11,7 +11,7 @@ returns-in_err-build_list c =
     let t = c.args.so_far.now in
     let h = t.small.heading in
     let p = err_from_is_err_and c.from_residual.result c.from_residual.ensures.1 in
-    rw (p.1, p.2) (join_refused h.prod0 h.k h.rows h.states t.buf t.small.few.0 (omega arith) (list_of c.args.list)
+    rw (p.1, p.2) (join_refused h.prod0 h.k h.rows h.states t.buf (list_of c.args.list)
     _ _ _ _ refl c.in_err-build_list.ensures)
 
 pub returns : goal.returns
@@ -20,6 +20,8 @@ returns c =
     let h = t.small.heading in
     let n = c.build_list.new.kept in
     let g = n.small.heading in
-    join_built h.prod0 h.k h.rows h.states t.buf t.small.few.0 (omega arith) (list_of c.args.list)
-    g.prod0 g.k g.rows g.states n.buf (omega arith) c.in_ok-build_list.ensures _ _
-    (rw (c.lent.ensures.prod0, c.lent.ensures.k, c.lent.ensures.rows) at c.unite_two.ensures)
+    join_built h.prod0 h.k h.rows h.states t.buf t.small.few.0
+    (omega (arith, c.unite_two.ensures.long)) (list_of c.args.list)
+    g.prod0 g.k g.rows g.states n.buf
+    (omega (arith, c.lent.ensures.long)) c.in_ok-build_list.ensures _ _
+    (rw (c.lent.ensures.prod0, c.lent.ensures.k, c.lent.ensures.rows) at c.unite_two.ensures.unites)

@@ -9,8 +9,8 @@ invariant_of-keep c =
     let makes = rw c.told-work at c.in_ok-heading.ensures in
     record { few = made_few _ h.prod0 h.k h.rows h.states _ _ (united_small _ _ _ _ _ _ 16384) makes }
 
-pub returns : goal.returns
-returns c =
+pub returns-clause-unites : goal.returns-clause-unites
+returns-clause-unites c =
     let h = c.in_ok-heading.heading in
     let makes = rw (c.told-work, c.lent.ensures.prod0, c.lent.ensures.k, c.lent.ensures.rows) at c.in_ok-heading.ensures in
     rw c.keep.ensures.heading
