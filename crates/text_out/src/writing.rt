@@ -89,7 +89,8 @@ impl<'a> Writer<'a> {
 
     // A row's line.
     fn put_row(&mut self, from: usize, terminal: usize, to: usize, production: Option<Production>)
-        requires { (self.old.at + 35 ≤ length self.old.out.now) × (from < 100000) × (terminal < 100000) × (to < 100000) }
+        requires { (self.old.at + 35 ≤ length self.old.out.now) × (from < 100000) × (terminal < 100000)
+            × (to < 100000) }
         ensures { Adds self.old self.new 35 (row_text (row from terminal to (signed (given production)))) }
     {
         self.put_field(b"Trans(", from);
