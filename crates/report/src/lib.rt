@@ -17,7 +17,8 @@ use rows::Rows;
 fn shrunk(mode: Mode, lent: Table, spare: &mut [i32]) -> Result<Sizes, Refusal>
     requires { Taken lent.prod0 lent.k lent.rows.now × (16384 ≤ length spare.old) }
     ensures { MatchResult result (Sized mode (table lent.entry.prod0 lent.entry.k lent.entry.rows.now))
-        (λ f. shrink_table mode (table lent.entry.prod0 lent.entry.k lent.entry.rows.now) ≡ refuse (number f) (detail f)) }
+        (λ f. shrink_table mode (table lent.entry.prod0 lent.entry.k lent.entry.rows.now)
+        ≡ refuse (number f) (detail f)) }
 {
     let made = shrink::shrink(mode, lent, spare)?;
     Ok(Sizes {
