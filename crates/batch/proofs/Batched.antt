@@ -9,17 +9,14 @@ use lib.ListN.{length, take, drop}
 use lib.IntN.{ℤ}
 use Rattle.paper.specs.declared.Mode.{Mode}
 use Rattle.paper.specs.declared.Refusal.{Refusal}
-use Rattle.paper.specs.declared.Writing.TheVariants.{Wrote}
+use Rattle.std.specs.Prelude.{Result, Ok, Err}
 use Rattle.paper.specs.Rows.{table}
 use Rattle.paper.specs.Answers.{Ruling, accept, refuse, number, detail, Chosen, Writes}
 use Rattle.paper.specs.Checks.{first, row_slice, plain}
 use Rattle.paper.specs.Predict.{predict}
 use Rattle.laws.proofs.Writing as writing
 use Rattle.row_checks.specs.Verdicts.{Judges, follow}
-use Rattle.row_checks.specs.declared.Verdict.{Verdict}
-use Rattle.row_checks.specs.declared.Verdict.TheVariants as verdict
-use Rattle.row_checks.specs.declared.Verdict.TheVariants.{Pass}
-use Rattle.row_checks.proofs.Judged.{judged}
+use Rattle.row_checks.proofs.Judged.{judged, next_check}
 use Rattle.predict.specs.Checked.{checked}
 use Rattle.predict.proofs.Parts.{after_checks}
 use Rattle.paper.specs.Batch.{each_window, window_lengths, batch}
@@ -50,33 +47,33 @@ module _ (mode : Mode) (p : ℤ) (k : ℕ) (ns : List ℤ) (stream count : ℕ) 
 
     module _ (fit : window_lengths k count (length ts) room ≡ false) where
       -- after 1: the verdict of 2 and 3, then 9
-      after_1 : (v : Verdict) → Judges (plain (table p k ns)) v →
+      after_1 : {A : Type 0} (v : Result A Refusal) → Judges (plain (table p k ns)) v →
           follow v (first ((ltb stream k, 9) ∷ []) (accept (each_window (predict mode p k ns stream) k count ts)))
           ≡ batch mode p k ns stream count ts room
       unfolding batch
       after_1 v j = sym (judged _ j) ∙ rw (whole, fit)
 
-      pub refused_table : (f : Refusal) → Judges (plain (table p k ns)) (verdict.Refused f) →
+      pub refused_table : {A : Type 0} (f : Refusal) → Judges {A = A} (plain (table p k ns)) (Err f) →
           batch mode p k ns stream count ts room ≡ refuse (number f) (detail f)
-      refused_table f j = sym (after_1 (verdict.Refused f) j)
+      refused_table f j = sym (after_1 (Err f) j)
 
-      module _ (passed : Judges (plain (table p k ns)) Pass) where
+      module _ {A : Type 0} (a : A) (passed : Judges (plain (table p k ns)) (Ok a)) where
         pub refused_stream : stream < k → batch mode p k ns stream count ts room ≡ refuse 9 []
-        refused_stream h = sym (after_1 Pass passed) ∙ rw (lt-ltb stream k h)
+        refused_stream h = sym (after_1 (Ok a) passed) ∙ rw (lt-ltb stream k h)
 
         accepted : k ≤ stream → batch mode p k ns stream count ts room
             ≡ accept (each_window (checked mode (table p k ns) stream) k count ts)
         accepted h =
-            sym (after_1 Pass passed)
+            sym (after_1 (Ok a) passed)
             ∙ rw (le-ltb stream k h)
             (ap accept (sym (agreeing (checked mode (table p k ns) stream) (predict mode p k ns stream)
-            (λ w. after_checks mode p k ns stream w whole Pass passed) k count ts)))
+            (λ w. after_checks mode p k ns stream w (Ok a) (next_check whole passed)) k count ts)))
 
         pub written : (old new : List ℤ) → k ≤ stream
             → new ≡ each_window (checked mode (table p k ns) stream) k count ts ++ drop count old
-            → Writes (batch mode p k ns stream count ts room) (Wrote count) old new
+            → Writes (batch mode p k ns stream count ts room) (Ok count) old new
         written old new h e =
             let t = each_window (checked mode (table p k ns) stream) k count ts in
             let n = answers_count (checked mode (table p k ns) stream) k count ts in
-            subst (λ (c : ℕ). Writes (batch mode p k ns stream count ts room) (Wrote c) old new) n
+            subst (λ (c : ℕ). Writes (batch mode p k ns stream count ts room) (Ok c) old new) n
             (writing.written (accepted h) (e ∙ ap (λ (c : ℕ). t ++ drop c old) (sym n)))

@@ -27,9 +27,9 @@ use denote.Ref.{Bor}
 use Rattle.explain.specs.declared.Part.{Part}
 use Rattle.explain.specs.Stopped.{Lies}
 use Rattle.search.specs.Search.{Leaves}
-use Rattle.row_checks.specs.Verdicts.{Judges, follow}
-use Rattle.row_checks.specs.declared.Verdict.{Verdict}
-use Rattle.row_checks.specs.declared.Verdict.TheVariants.{Pass, Refused}
+use Rattle.std.specs.Prelude.{Result, Ok, Err}
+use Rattle.paper.specs.declared.Refusal.{Refusal}
+use Rattle.row_checks.specs.Verdicts.{Judges, follow, whole}
 use Rattle.row_checks.proofs.Judged.{judged}
 
 module _ (ns : List ℤ) where
@@ -79,39 +79,26 @@ part_is slice part s r l p =
     }
 
 module _ (p : ℤ) (k : ℕ) (ns : List ℤ) (ts : List ℕ) where
-  explain_length : row_slice ns ≡ true → explain p k ns ts ≡ refuse 1 []
-  unfolding explain
-  explain_length e = rw e
-
-  explain_after : row_slice ns ≡ false → (v : Verdict) → Judges (plain (table p k ns)) v
+  explain_after : {A : Type 0} (v : Result A Refusal) → Judges (whole p k ns) v
       → explain p k ns ts ≡ follow v (accept (stop (rows_in ns) 0 0 ts))
   unfolding explain
-  explain_after e v j = rw e (judged (accept (stop (rows_in ns) 0 0 ts)) j)
+  explain_after v j = judged (accept (stop (rows_in ns) 0 0 ts)) j
 
-  pub matched_length : row_slice ns ≡ true → refuse 1 [] ≡ matched_count p k ns ts
+  pub matched_refused : {A : Type 0} (f : Refusal) → Judges {A = A} (whole p k ns) (Err f)
+      → refuse (number f) (detail f) ≡ matched_count p k ns ts
   unfolding matched_count
-  matched_length e = rw (explain_length e)
+  matched_refused f j = rw (explain_after (Err f) j)
 
-  pub stretch_length : row_slice ns ≡ true → at_end ns ≡ stretch p k ns ts
+  pub matched_passed : {A : Type 0} (a : A) (w : Stop) → Judges (whole p k ns) (Ok a) → w ≡ stop (rows_in ns) 0 0 ts
+      → accept w.matched ≡ matched_count p k ns ts
+  unfolding matched_count
+  matched_passed a w j s = rw (explain_after (Ok a) j, s)
+
+  pub stretch_refused : {A : Type 0} (f : Refusal) → Judges {A = A} (whole p k ns) (Err f) → at_end ns ≡ stretch p k ns ts
   unfolding stretch stretch_of
-  stretch_length e = rw (explain_length e)
+  stretch_refused f j = rw (explain_after (Err f) j)
 
-  module _ (e : row_slice ns ≡ false) where
-    pub matched_refused : (f : _) → Judges (plain (table p k ns)) (Refused f)
-        → refuse (number f) (detail f) ≡ matched_count p k ns ts
-    unfolding matched_count
-    matched_refused f j = rw (explain_after e (Refused f) j)
-
-    pub matched_passed : (w : Stop) → Judges (plain (table p k ns)) Pass → w ≡ stop (rows_in ns) 0 0 ts
-        → accept w.matched ≡ matched_count p k ns ts
-    unfolding matched_count
-    matched_passed w j s = rw (explain_after e Pass j, s)
-
-    pub stretch_refused : (f : _) → Judges (plain (table p k ns)) (Refused f) → at_end ns ≡ stretch p k ns ts
-    unfolding stretch stretch_of
-    stretch_refused f j = rw (explain_after e (Refused f) j)
-
-    pub stretch_passed : (w : Stop) → Judges (plain (table p k ns)) Pass → w ≡ stop (rows_in ns) 0 0 ts
-        → left_rows ns (rows_in ns) w ≡ stretch p k ns ts
-    unfolding stretch stretch_of
-    stretch_passed w j s = rw (explain_after e Pass j, s)
+  pub stretch_passed : {A : Type 0} (a : A) (w : Stop) → Judges (whole p k ns) (Ok a) → w ≡ stop (rows_in ns) 0 0 ts
+      → left_rows ns (rows_in ns) w ≡ stretch p k ns ts
+  unfolding stretch stretch_of
+  stretch_passed a w j s = rw (explain_after (Ok a) j, s)

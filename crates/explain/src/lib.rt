@@ -1,19 +1,17 @@
 // Document 01, module 6: explain.
 #![tactic(auto)]
 
-ghost use Rattle.std.specs.Prelude.{◌≡◌, false, ◌+◌, ◌-◌, ◌*◌, ◌<◌, ◌≤◌, length};
+ghost use Rattle.std.specs.Prelude.{◌≡◌, ◌-◌, ◌≤◌, length};
 ghost use Rattle.paper.specs.Rows.{rows_in};
-ghost use Rattle.paper.specs.Answers.{explained};
-ghost use Rattle.paper.specs.Explain.{stop, left_rows, matched_count, stretch, PartOf};
-ghost use Rattle.rows.specs.Passed.{Passed};
+ghost use Rattle.paper.specs.Answers.{stated};
+ghost use Rattle.paper.specs.Explain.{stop, matched_count, stretch, left_rows, PartOf};
 ghost use Rattle.explain.specs.Stopped.{stopped, Lies};
 
-use paper::{Explanation, Refusal, State, Terminal};
-use row_checks::Verdict;
-use rows::numbers;
-use search::Found;
+use paper::{Refusal, State, Table, Terminal};
+use rows::Rows;
 
-// Where the walk stopped: the state, the count of matched tokens, and whether a token was left over.
+// Where the walk stopped: the state, the count of matched tokens, and whether a token was left over. The state stands
+// beside the flag also where none was, as in the document.
 #[derive(Clone, Copy)]
 pub struct Stop {
     pub state: State,
@@ -21,47 +19,34 @@ pub struct Stop {
     pub more: bool,
 }
 
-// The walk over all tokens to the first without a row, in rows that passed 2 and 3.
-fn walked(rows: &[i32], tokens: &[u16]) -> Stop
-    requires { Passed rows.now }
-    ensures { stopped result ≡ stop (rows_in rows.now) 0 0 tokens.now }
+// The walk over all tokens to the first without a row.
+fn walked(rows: Rows, tokens: &[u16]) -> Stop
+    ensures { stopped result ≡ stop (rows_in rows.entry.numbers.now) 0 0 tokens.now }
 {
     let mut state = State(0);
-    let mut i = 0;
-    while i < tokens.len() {
-        let found = search::find(rows, state, Terminal(tokens[i]));
-        let Found::At(row) = found else {
+    for (i, token) in tokens.iter().enumerate() {
+        let Ok(row) = search::find(rows, state, Terminal(*token)) else {
             return Stop {
                 state,
                 matched: i,
                 more: true,
             };
         };
-        state = State(numbers::to_at(rows, row) as u16);
-        i += 1;
+        state = State(rows.to(row) as u16);
     }
     Stop {
         state,
-        matched: i,
+        matched: tokens.len(),
         more: false,
     }
 }
 
 // Explain, the first call: the count of matched tokens, or the refusal.
-pub fn matched(prod0: i32, k: usize, rows: &[i32], tokens: &[u16]) -> Explanation
-    ensures { explained result ≡ matched_count prod0 k rows.now tokens.now }
+pub fn matched(lent: Table, tokens: &[u16]) -> Result<usize, Refusal>
+    ensures { stated result ≡ matched_count lent.entry.prod0 lent.entry.k lent.entry.rows.now tokens.now }
 {
-    if row_checks::row_slice(rows) {
-        return Explanation::Refused(Refusal::Length);
-    }
-    let verdict = row_checks::plain(prod0, k, rows);
-    match verdict {
-        Verdict::Refused(f) => Explanation::Refused(f),
-        Verdict::Pass => {
-            let s = walked(rows, tokens);
-            Explanation::Matched(s.matched)
-        }
-    }
+    let checked = row_checks::whole(lent)?;
+    Ok(walked(checked.rows(), tokens).matched)
 }
 
 // A stretch of a row slice: where it begins and how long it is, in numbers.
@@ -71,12 +56,11 @@ pub struct Part {
     pub count: usize,
 }
 
-// The rows that leave the state where a walk stopped, in rows that passed 2 and 3.
-fn left_rows(rows: &[i32], s: Stop) -> Part
-    requires { Passed rows.now }
-    ensures { Lies rows.now (left_rows rows.now (rows_in rows.now) (stopped s)) result }
+// The rows that leave the state where a walk stopped.
+fn left_rows(rows: Rows, s: Stop) -> Part
+    ensures { Lies rows.entry.numbers.now (left_rows rows.entry.numbers.now (rows_in rows.entry.numbers.now) (stopped s)) result }
 {
-    let n = rows.len();
+    let n = rows.numbers.len();
     if !s.more {
         return Part { start: n, count: 0 };
     }
@@ -91,18 +75,16 @@ fn left_rows(rows: &[i32], s: Stop) -> Part
 }
 
 // Where the rows that leave the stopped state lie; at the slice's end, and none, after a refusal.
-pub fn place(prod0: i32, k: usize, rows: &[i32], tokens: &[u16]) -> Part
-    ensures { Lies rows.now (stretch prod0 k rows.now tokens.now) result }
+pub fn place(lent: Table, tokens: &[u16]) -> Part
+    ensures { Lies lent.entry.rows.now (stretch lent.entry.prod0 lent.entry.k lent.entry.rows.now tokens.now) result }
 {
-    let n = rows.len();
-    if row_checks::row_slice(rows) {
-        return Part { start: n, count: 0 };
+    match row_checks::whole(lent) {
+        Ok(checked) => left_rows(checked.rows(), walked(checked.rows(), tokens)),
+        Err(_) => Part {
+            start: lent.rows.len(),
+            count: 0,
+        },
     }
-    let verdict = row_checks::plain(prod0, k, rows);
-    let Verdict::Pass = verdict else {
-        return Part { start: n, count: 0 };
-    };
-    left_rows(rows, walked(rows, tokens))
 }
 
 // The numbers of a slice from a to e.
@@ -114,9 +96,9 @@ fn between(rows: &[i32], a: usize, e: usize) -> &[i32]
 }
 
 // Explain, the second call: the rows that leave the stopped state, as a part of the caller's own slice.
-pub fn stretch<'a>(prod0: i32, k: usize, rows: &'a [i32], tokens: &[u16]) -> &'a [i32]
-    ensures { PartOf rows.entry result (stretch prod0 k rows.now tokens.now) }
+pub fn stretch<'a>(lent: Table<'a>, tokens: &[u16]) -> &'a [i32]
+    ensures { PartOf lent.entry.rows result (stretch lent.entry.prod0 lent.entry.k lent.entry.rows.now tokens.now) }
 {
-    let p = place(prod0, k, rows, tokens);
-    between(rows, p.start, p.start + p.count)
+    let p = place(lent, tokens);
+    between(lent.rows, p.start, p.start + p.count)
 }

@@ -13,7 +13,7 @@ use grow_ends::Spread;
 use paper::{Heading, Production, State, Terminal};
 use rows::{Rows, numbers};
 
-// n rows that rise, each within its bounds.
+// n rows that rise, each within its bounds. That they are a tree give asks: held here, add would ask more of callers.
 #[derive(Drop)]
 pub struct Growing {
     spread: Spread,

@@ -5,6 +5,5 @@ pub mod Written
 pub mod Placed
 pub mod Viewed
 pub mod Painted
-pub mod Fronts
 pub mod Answered
 pub mod Begun

@@ -9,7 +9,7 @@ ghost use Rattle.grow_laws.specs.Moves.{over_row};
 
 use rows::numbers;
 
-// Row i becomes four numbers.
+// Row i becomes four numbers, each stored by itself: a copy of the array costs more.
 fn put_row(buf: &mut [i32], i: usize, row: [i32; 4])
     requires { i * 4 + 3 < length buf.old }
     ensures { buf.new ≡ over_row buf.old i row }

@@ -2,109 +2,96 @@
 #![tactic(auto)]
 
 ghost use Rattle.std.specs.Prelude.{◌≡◌, ◌≤◌, length};
-ghost use Rattle.paper.specs.Rows.{accepting, table};
+ghost use Rattle.paper.specs.Rows.{table};
 ghost use Rattle.paper.specs.Answers.{predicted};
 ghost use Rattle.paper.specs.Predict.{fallback, answer, chosen, predict};
-ghost use Rattle.rows.specs.Places.{code};
-ghost use Rattle.walk.specs.Seen.{reached};
-ghost use Rattle.predict.specs.Checked.{Sound, checked};
+ghost use Rattle.rows.specs.Places.{given};
+ghost use Rattle.predict.specs.Checked.{checked};
 
-use paper::{Mode, Prediction, Production, Refusal};
-use row_checks::Verdict;
-use rows::numbers;
-use walk::{Reached, Walk};
+use paper::{Mode, Prediction, Production, Refusal, Table};
+use row_checks::Checked;
+use walk::Walk;
 
 // What a walk answers where no row that it entered accepts.
-fn fallback(mode: Mode, prod0: i32, entered: usize) -> Prediction
-    requires { code (accepting prod0) ≤ 65536 }
-    ensures { predicted result ≡ fallback mode (accepting prod0) entered }
+#[tactic(auto, unfolding(paper::specs::Predict::fallback))]
+fn fallback(mode: Mode, root: Option<Production>, entered: usize) -> Result<Prediction, Refusal>
+    ensures { predicted result ≡ fallback mode (given root) entered }
 {
-    let p = numbers::coded(prod0);
-    if p == 0 {
-        return Prediction::Refused(Refusal::None);
-    }
-    let production = Production((p - 1) as u16);
+    let Some(production) = root else {
+        return Err(Refusal::None);
+    };
+    let answer = Prediction {
+        production,
+        entered,
+    };
     match mode {
-        Mode::Intake => Prediction::Predicted {
-            production,
-            entered,
-        },
+        Mode::Intake => Ok(answer),
         Mode::Archive => {
             if entered == 0 {
-                Prediction::Predicted {
-                    production,
-                    entered,
-                }
+                Ok(answer)
             } else {
-                Prediction::Refused(Refusal::Root)
+                Err(Refusal::Root)
             }
         }
     }
 }
 
 // What a walk answers.
-fn answer(mode: Mode, prod0: i32, w: Walk) -> Prediction
-    requires { code (accepting prod0) ≤ 65536 }
-    ensures { predicted result ≡ answer mode (accepting prod0) w.entered (reached w.last) }
+#[tactic(auto, unfolding(paper::specs::Predict::answer))]
+fn answer(mode: Mode, root: Option<Production>, w: Walk) -> Result<Prediction, Refusal>
+    ensures { predicted result ≡ answer mode (given root) w.entered (given w.last) }
 {
-    let entered = w.entered;
-    let last = w.last;
-    match last {
-        Reached::Accepting(production) => Prediction::Predicted {
+    match w.last {
+        Some(production) => Ok(Prediction {
             production,
-            entered,
-        },
-        Reached::Nothing => fallback(mode, prod0, entered),
+            entered: w.entered,
+        }),
+        None => fallback(mode, root, w.entered),
     }
 }
 
-// The walk over the first k tokens of a table that passed 2 and 3, and its answer.
-fn chosen(mode: Mode, prod0: i32, k: usize, rows: &[i32], tokens: &[u16]) -> Prediction
-    requires { Sound prod0 k rows.now × (k ≤ length tokens.now) }
-    ensures { predicted result ≡ chosen mode (table prod0 k rows.now) tokens.now }
+// The walk over the first k tokens, and its answer.
+#[tactic(auto, unfolding(paper::specs::Predict::chosen))]
+fn chosen(mode: Mode, lent: Checked, tokens: &[u16]) -> Result<Prediction, Refusal>
+    requires { lent.table.k ≤ length tokens.now }
+    ensures { predicted result
+        ≡ chosen mode (table lent.entry.table.prod0 lent.entry.table.k lent.entry.table.rows.now) tokens.now }
 {
-    let w = walk::walked(rows, &tokens[..k]);
-    answer(mode, prod0, w)
+    let w = walk::walked(lent.rows(), &tokens[..lent.table.k]);
+    answer(mode, lent.root(), w)
 }
 
 // Predict for a table that passed 2 and 3, for predict and batch: 9, 10, then the walk.
+#[tactic(auto, unfolding(crate::specs::Checked::checked))]
 pub fn predict_checked(
     mode: Mode,
-    prod0: i32,
-    k: usize,
-    rows: &[i32],
+    lent: Checked,
     stream: usize,
     tokens: &[u16],
-) -> Prediction
-    requires { Sound prod0 k rows.now }
-    ensures { predicted result ≡ checked mode (table prod0 k rows.now) stream tokens.now }
+) -> Result<Prediction, Refusal>
+    ensures { predicted result
+        ≡ checked mode (table lent.entry.table.prod0 lent.entry.table.k lent.entry.table.rows.now) stream tokens.now }
 {
+    let k = lent.table.k;
     if stream < k {
-        return Prediction::Refused(Refusal::Mismatch);
+        return Err(Refusal::Mismatch);
     }
     if tokens.len() < k {
-        return Prediction::Refused(Refusal::Short);
+        return Err(Refusal::Short);
     }
-    chosen(mode, prod0, k, rows, tokens)
+    chosen(mode, lent, tokens)
 }
 
 // Predict: the checks 1, 2, 3, 9, 10, then the walk.
 pub fn predict(
     mode: Mode,
-    prod0: i32,
-    k: usize,
-    rows: &[i32],
+    lent: Table,
     stream: usize,
     tokens: &[u16],
-) -> Prediction
-    ensures { predicted result ≡ predict mode prod0 k rows.now stream tokens.now }
+) -> Result<Prediction, Refusal>
+    ensures { predicted result
+        ≡ predict mode lent.entry.prod0 lent.entry.k lent.entry.rows.now stream tokens.now }
 {
-    if row_checks::row_slice(rows) {
-        return Prediction::Refused(Refusal::Length);
-    }
-    let verdict = row_checks::plain(prod0, k, rows);
-    match verdict {
-        Verdict::Refused(f) => Prediction::Refused(f),
-        Verdict::Pass => predict_checked(mode, prod0, k, rows, stream, tokens),
-    }
+    let checked = row_checks::whole(lent)?;
+    predict_checked(mode, checked, stream, tokens)
 }

@@ -9,7 +9,7 @@ use paper::{State, Terminal};
 use rows::Rows;
 
 // Where the rows of a state begin, or its first row would go, and how many they are.
-#[derive(Clone, Copy, Debug, PartialEq, Eq)]
+#[derive(Clone, Copy)]
 pub struct Span {
     pub begin: usize,
     pub count: usize,

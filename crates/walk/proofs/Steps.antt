@@ -3,44 +3,33 @@
 use mathlib.Core.Path.{◌≡◌, refl, sym, ap, ◌∙◌}
 use mathlib.Core.Option.{Option, none, some}
 use mathlib.Core.List.{List}
-use Prim.Native.Nat.{ℕ, suc, ◌+◌, ◌-◌, ◌<◌, ◌≤◌}
+use Prim.Native.Nat.{ℕ, suc, ◌+◌, ◌<◌, ◌≤◌}
 use native.Mathlib.Omega.{arith}
 use native.Mathlib.Numerals.{add-one}
 use lib.ListN.{length, get_or, drop, drop_of_length-le}
 use lib.Seq.{drop-cons}
 use Rattle.paper.specs.Rows.{Row, find}
 use Rattle.paper.specs.Predict.{Walk, or_else, go_by, step, walk}
-use Rattle.rows.specs.Places.{code}
+use Rattle.std.specs.Prelude.{Some, None}
+use Rattle.std.specs.Option.{option_or}
+use Rattle.std.specs.declared.option.Option as rust
+use Rattle.paper.specs.declared.Production.{Production}
+use Rattle.rows.specs.Places.{given}
 use Rattle.walk.specs.Seen.{entering}
 
-stays_last : (q : Option ℕ) (l : Option ℕ) → code q ≡ 0 → l ≡ or_else q l
+-- what `or` gives
+pub or_given : (p l : rust.Option Production) → given (option_or p l) ≡ or_else (given p) (given l)
 unfolding or_else
-stays_last none l e = refl
-stays_last (some q) l e = absurd (omega arith)
+or_given None l = refl
+or_given (Some q) l = refl
 
-takes_last : (q : Option ℕ) (l : Option ℕ) (p : ℕ) → p ≡ code q → (p ≡ 0 → ⊥) → some (p - 1) ≡ or_else q l
-unfolding or_else
-takes_last none l p e n = absurd (n e)
-takes_last (some q) l p e n = ap some (omega arith)
-
-module _ (w : Walk) (r : Row) (to p : ℕ) (t : to ≡ r.to) (e : p ≡ code r.production) where
-  entered_next : w.entered + 1 ≡ suc w.entered
-  entered_next = add-one w.entered
-
-  -- along a row that is not accepting, and along one that is
-  pub enters_plain : p ≡ 0
-      → ◌≡◌ {A = Walk} (record { state = to; entered = w.entered + 1; last = w.last }) (entering r w)
-  unfolding go_by
-  enters_plain z =
-      let l : w.last ≡ or_else r.production w.last = stays_last r.production w.last (sym e ∙ z) in
-      λ i. record { state = t i; entered = entered_next i; last = l i }
-
-  pub enters_accepting : (p ≡ 0 → ⊥)
-      → ◌≡◌ {A = Walk} (record { state = to; entered = w.entered + 1; last = some (p - 1) }) (entering r w)
-  unfolding go_by
-  enters_accepting n =
-      let l : some (p - 1) ≡ or_else r.production w.last = takes_last r.production w.last p e n in
-      λ i. record { state = t i; entered = entered_next i; last = l i }
+-- along a row: its production if it has one, else what was reached before
+pub enters : (w : Walk) (r : Row) (to : ℕ) (l : Option ℕ) → to ≡ r.to → l ≡ or_else r.production w.last
+    → ◌≡◌ {A = Walk} (record { state = to; entered = w.entered + 1; last = l }) (entering r w)
+unfolding go_by
+enters w r to l t e =
+    let n : w.entered + 1 ≡ suc w.entered = add-one w.entered in
+    λ i. record { state = t i; entered = n i; last = e i }
 
 module _ (rs : List Row) (t : ℕ) (w : Walk) where
   pub steps_in : (r : Row) → find rs w.state t ≡ some r → entering r w ≡ step rs t w

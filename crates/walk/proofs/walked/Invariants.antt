@@ -1,15 +1,13 @@
 use mathlib.Core.Path.{◌≡◌}
-use Prim.Native.Nat.{◌-◌, ◌≤◌}
-use lib.ListN.{length, drop}
+use Prim.Native.Nat.{◌≤◌}
+use lib.ListN.{drop}
 use Rattle.paper.specs.Rows.{rows_in}
 use Rattle.paper.specs.Predict.{start, walk}
 use Rattle.walk.specs.Seen.{seen}
 use Rattle.walk.proofs.walked.Given as goal
 
-abbrev pub invariant-loop-i : goal.invariant-loop-i
-invariant-loop-i l =
-    (l.i ≤ length l.tokens) × (l.w.entered ≤ l.i) × (walk (rows_in l.rows) l.tokens start ≡ walk (rows_in l.rows)
-    (drop l.i l.tokens) (seen l.w))
-
-abbrev pub decreases-loop-i : goal.decreases-loop-i
-decreases-loop-i l = length l.tokens - l.i
+abbrev pub invariant-loop-token : goal.invariant-loop-token
+invariant-loop-token l =
+    (l.w.entered ≤ l.token-index)
+    × (walk (rows_in l.rows.numbers.now) l.tokens start
+    ≡ walk (rows_in l.rows.numbers.now) (drop l.token-index l.tokens) (seen l.w))
