@@ -46,7 +46,8 @@ fn joined(
     ensures { Makes (joining mode (given prod0) k (rows_in first.entry.rows.numbers.now)
         (rows_in second.entry.rows.numbers.now)) result out.old out.new }
 {
-    let mut growing = Growing::of(first.rows);
+    let mut growing = Growing::empty();
+    growing.copy(first.rows);
     let mut map = [0u16; 1024];
     match unite_taking::take_rows(mode, &mut growing, second, &mut map) {
         Ok(()) => Ok(growing.finish(prod0, k, out)),

@@ -1,0 +1,16 @@
+use Rattle.grow_laws.proofs.Begun.{begun_rows, begun_laid}
+use Rattle.grow_laws.specs.Held.{view}
+use Rattle.grow.proofs.Growing.copy.Goals as goal
+
+pub invariant_of-self : goal.invariant_of-self
+invariant_of-self c =
+    let s = c.copy.new.self in
+    record {
+      laid = begun_laid c.args.rows.numbers.now (view s.buf s.lo) _ c.copy.ensures c.count-self.ensures c.requires.1
+          c.requires.0 s.room c.args.rows.passed;
+    }
+
+pub returns : goal.returns
+returns c =
+    let s = c.copy.new.self in
+    begun_rows c.args.rows.numbers.now (view s.buf s.lo) _ c.copy.ensures c.count-self.ensures c.requires.1
