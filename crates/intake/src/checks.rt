@@ -5,6 +5,7 @@ ghost use Rattle.intake_lists.specs.Call.{lists_lengths};
 use intake_lists::StringLists;
 
 // 1 LENGTH: true when it refuses.
+#[tactic(auto, unfolding(intake_lists::specs::Call::lists_lengths, paper::specs::Checks::little_room))]
 pub fn lengths(lists: StringLists, room: usize) -> bool
     ensures { result ≡ lists_lengths lists.entry.productions.now lists.entry.counts.now lists.entry.lengths.now
         lists.entry.tokens.now room }

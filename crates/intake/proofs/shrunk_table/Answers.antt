@@ -11,6 +11,12 @@ returns-then-lengths c =
     refused_lengths a.productions.now a.counts.now a.lengths.now a.tokens.now (length c.args.out.now)
     c.args.out.now (sym c.lengths.ensures ∙ c.if-lengths.true)
 
+pub invariant_of-shrunk : goal.invariant_of-shrunk
+invariant_of-shrunk c =
+    let a = c.args.lists in
+    record { summed = (passed a.productions.now a.counts.now a.lengths.now a.tokens.now (length c.args.out.now)
+    (sym c.lengths.ensures ∙ c.if-lengths.false)).summed }
+
 pub shrunk-requires : goal.shrunk-requires
 shrunk-requires c =
     let a = c.args.lists in
