@@ -2,6 +2,7 @@
 use crate::predicts;
 use cases::answer;
 use cases::tally::Outcome;
+use intake_lists::StringLists;
 use paper::{Mode, Table};
 use parts::case::Case;
 use parts::{number, slice};
@@ -17,7 +18,13 @@ pub fn asked(mut case: Case) -> Outcome {
     let lengths = case.list();
     let tokens = case.tokens(&mut tokens);
     let lent = slice::lent(&mut out, case.number());
-    let answer = intake::shrunk_table(productions, counts, lengths, tokens, lent);
+    let lists = StringLists {
+        productions,
+        counts,
+        lengths,
+        tokens,
+    };
+    let answer = intake::shrunk_table(lists, lent);
     let windows = case.list();
     answer::compared(case.rest(), answer, &out, |table| are_told(windows, table))
 }

@@ -6,4 +6,4 @@ use Rattle.exports.proofs.lookahead_build.Goals as goal
 pub returns : goal.returns
 returns c =
     rw (← same c.args.production c.ranges.production)
-    (table_hands _ _ _ _ _ _ (build_fits _ _ _ _) c.build.ensures c.made.ensures)
+    (table_hands _ _ _ _ _ _ (build_fits _ _ _ _) c.build.ensures c.hand.ensures)

@@ -5,4 +5,4 @@ use Rattle.exports.proofs.lookahead_intake.Goals as goal
 pub returns : goal.returns
 returns c =
     table_hands _ _ _ _ _ _ (intake_fits _ _ _ _ _) c.shrunk_table.ensures
-    c.made.ensures
+    c.hand.ensures

@@ -5,4 +5,4 @@ use Rattle.exports.proofs.lookahead_text_out.Goals as goal
 pub returns : goal.returns
 returns c =
     rw (← same c.args.prod0 c.ranges.prod0)
-    (written_hands _ _ _ _ _ _ c.text_out.ensures c.wrote.ensures)
+    (written_hands _ _ _ _ _ _ c.text_out.ensures c.hand.ensures)

@@ -10,4 +10,4 @@ returns c =
       ← same c.args.prod0a c.ranges.prod0a,
       ← same c.args.prod0b c.ranges.prod0b,
     )
-    (table_hands _ _ _ _ _ _ (unite_fits _ _ _ _ _ _ _ _) c.unite.ensures c.made.ensures)
+    (table_hands _ _ _ _ _ _ (unite_fits _ _ _ _ _ _ _ _) c.unite.ensures c.hand.ensures)
