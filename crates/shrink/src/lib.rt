@@ -6,6 +6,8 @@ ghost use Rattle.paper.specs.Rows.{table};
 ghost use Rattle.paper.specs.Answers.{accept, Makes};
 ghost use Rattle.paper.specs.Shrink.{shrink, shrunk};
 ghost use Rattle.rows.specs.Places.{given};
+ghost use Rattle.shrink_alike.specs.Tables.{table_of};
+ghost use Rattle.shrink_classes.specs.Classes.{Classes};
 ghost use Rattle.shrink_rows.specs.Output.{Shrunk};
 
 use paper::{Heading, Mode, Refusal, Table};
@@ -22,25 +24,34 @@ struct Sizes {
     states: usize,
 }
 
-// Writes the shrunk table: the classes, their new numbers, the rows.
-fn write(faces: &Faces, out: &mut [i32]) -> Sizes
-    requires { 16384 ≤ length out.old }
+// Writes the shrunk table of the classes, with their new numbers.
+fn write(faces: &Faces, class: &[u16; 1024], out: &mut [i32]) -> Sizes
+    requires { Classes faces.now.mode (table_of faces.now) class.now × (16384 ≤ length out.old) }
     ensures { Shrunk faces.now.mode (given faces.now.prod0) faces.now.rows.numbers.now out.old out.new result.rows
         result.states }
 {
-    let mut class = [0u16; 1024];
-    classes::classes(faces, &mut class);
     let mut number = [NO_STATE; 1024];
-    let states = shrink_places::places(faces, &class, &mut number);
+    let states = shrink_places::places(faces, class, &mut number);
     let numbered = Numbered {
         faces,
-        class: &class,
+        class,
         number: &number,
     };
     Sizes {
         rows: numbered.emit(out),
         states,
     }
+}
+
+// Writes the shrunk table. The new numbers are held after the classes are known, so that at most four arrays are at once.
+fn write_shrunk(faces: &Faces, out: &mut [i32]) -> Sizes
+    requires { 16384 ≤ length out.old }
+    ensures { Shrunk faces.now.mode (given faces.now.prod0) faces.now.rows.numbers.now out.old out.new result.rows
+        result.states }
+{
+    let mut class = [0u16; 1024];
+    classes::classes(faces, &mut class);
+    write(faces, &class, out)
 }
 
 // Shrinks a table that passed 1 to 6.
@@ -54,7 +65,7 @@ fn shrink_ruled(mode: Mode, lent: Ruled, out: &mut [i32]) -> Heading
     ruled::into::mark(few, &mut into);
     let mut first = [few.rows.count() as u16; 1024];
     index::firsts(few, &mut first);
-    let sizes = write(&Faces::new(mode, lent, &into, &first), out);
+    let sizes = write_shrunk(&Faces::new(mode, lent, &into, &first), out);
     Heading {
         prod0: lent.table.prod0,
         k: lent.table.k,

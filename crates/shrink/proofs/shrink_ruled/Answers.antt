@@ -16,7 +16,7 @@ firsts-requires c = holds_as (λ s. sym c.count.ensures) (filled c.count.result)
 pub returns : goal.returns
 returns c =
     let t = c.args.lent.table in
-    let s = c.write-sizes.result in
+    let s = c.write_shrunk-sizes.result in
     rw (same t.prod0 (search rules))
     (shrunk_answer c.args.mode t.prod0 t.k t.rows.now c.args.lent.sound (given c.new.result.prod0) c.new.ensures.1
-    c.args.out.now _ s.rows s.states (rw (c.new.ensures.0, c.new.ensures.2) at c.write-sizes.ensures))
+    c.args.out.now _ s.rows s.states (rw (c.new.ensures.0, c.new.ensures.2) at c.write_shrunk-sizes.ensures))
