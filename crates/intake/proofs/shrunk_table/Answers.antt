@@ -14,8 +14,10 @@ returns-then-lengths c =
 pub invariant_of-shrunk : goal.invariant_of-shrunk
 invariant_of-shrunk c =
     let a = c.args.lists in
-    record { summed = (passed a.productions.now a.counts.now a.lengths.now a.tokens.now (length c.args.out.now)
-    (sym c.lengths.ensures ∙ c.if-lengths.false)).summed }
+    record {
+      summed = (passed a.productions.now a.counts.now a.lengths.now a.tokens.now (length c.args.out.now)
+          (sym c.lengths.ensures ∙ c.if-lengths.false)).summed;
+    }
 
 pub shrunk-requires : goal.shrunk-requires
 shrunk-requires c =

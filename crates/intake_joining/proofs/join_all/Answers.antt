@@ -1,10 +1,8 @@
 -- One list at a time, until none is left or one is refused.
-use mathlib.Core.Path.{◌≡◌, refl, sym, ap, ◌∙◌}
+use mathlib.Core.Path.{refl, ◌∙◌}
 use native.Mathlib.Omega.{arith}
 use Rattle.std.specs.Prelude.{Ok}
 use Rattle.std.proofs.lemmas.Result.{err_from_is_err_and}
-use Rattle.paper.specs.Answers.{then}
-use Rattle.intake_lists.specs.Call.{join_all}
 use Rattle.intake_lists.specs.Held.{held}
 use Rattle.intake_lists.specs.Split.{lists_of, list_of}
 use Rattle.intake_lists.proofs.NextList.{no_list}

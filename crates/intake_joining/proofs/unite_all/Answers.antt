@@ -1,5 +1,4 @@
 -- The first list is built, and the others are joined to it.
-use mathlib.Core.Path.{refl}
 use Rattle.std.proofs.lemmas.Result.{err_from_is_err_and}
 use Rattle.intake_lists.specs.Call.{build_lent}
 use Rattle.intake_lists.specs.Split.{lists_of, list_of}

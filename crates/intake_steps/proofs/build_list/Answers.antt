@@ -1,8 +1,4 @@
 -- A list that build takes: its rows are few, and are kept.
-use mathlib.Core.Path.{◌≡◌, sym, ap, ◌∙◌}
-use Rattle.std.specs.Prelude.{Ok}
-use Rattle.paper.specs.Answers.{Makes}
-use Rattle.paper.specs.Build.{build}
 use Rattle.intake_lists.proofs.Kept.{built_small, made_few, holds_made}
 use Rattle.intake_steps.proofs.build_list.Goals as goal
 

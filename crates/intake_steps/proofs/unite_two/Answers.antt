@@ -1,5 +1,4 @@
 -- Two tables that unite takes: the result's rows are few, and are kept.
-use mathlib.Core.Path.{◌≡◌, sym, ap, ◌∙◌}
 use Rattle.intake_lists.proofs.Kept.{united_small, made_few, holds_made}
 use Rattle.intake_steps.proofs.unite_two.Goals as goal
 
