@@ -17,19 +17,9 @@ by_rest n m zero e = ap not (sym (eq-eqb n m (omega arith)))
 by_rest n m (suc r) e = ap not (ne_eqb (suc r) 0 (λ d. omega arith) ∙ sym (ne_eqb n m (λ d. omega arith)))
 
 module _ (n c k : ℕ) where
-  -- no windows are asked for
-  pub no_windows : c ≡ 0 → not (eqb n 0) ≡ not (eqb n (c * k))
-  no_windows e = ap (λ (x : ℕ). not (eqb n x)) (sym (ap (λ (x : ℕ). x * k) e ∙ zero-mul k))
-
   module _ (z : c ≡ 0 → ⊥) where
     above : 0 < c
     above = omega (arith, z)
-
-    -- each would have another length
-    pub other_length : (n / c ≡ k → ⊥) → true ≡ not (eqb n (c * k))
-    other_length h =
-        sym (ap not (ne_eqb n (c * k) (λ e. h (ap (λ (x : ℕ). x / c) (e ∙ mul_comm c k ∙ sym (add-zero (k * c)))
-        ∙ digits_div k {m = c} {r = 0} above))))
 
     -- each has length k, and tokens may be left over
     pub left_over : n / c ≡ k → not (eqb (n % c) 0) ≡ not (eqb n (c * k))
@@ -39,22 +29,9 @@ module _ (n c k : ℕ) where
 
 -- ---- the place of the next window
 module _ (c i k a r : ℕ) (h : i < c) (e : a ≡ i * k) (n : r ≡ c * k) where
-  -- it lies within the tokens
-  pub window_there : a + k ≤ r
-  window_there =
-      let d : suc i * k ≤ c * k = mul-le-mul_right k h in
-      let s : suc i * k ≡ i * k + k = suc-mul i k in
-      omega arith
-
   -- and the one behind it
   pub next_place : a + k ≡ (i + 1) * k
   next_place = ap (λ (x : ℕ). x + k) e ∙ sym (suc-mul i k) ∙ ap (λ (x : ℕ). x * k) (sym (add-one i))
-
--- 4,096 windows of 16 at the most
-pub few_tokens : (c k : ℕ) → c ≤ 4096 → k ≤ 16 → c * k ≤ 65536
-few_tokens c k h l =
-    let a : c * k ≤ 4096 * k = mul-le-mul_right k h in
-    omega arith
 
 -- 1 passed: so many windows, no more than 4,096, and room for their answers
 pub lengths_passed : (k c n room : ℕ) → window_lengths k c n room ≡ false → (n ≡ c * k) × (c ≤ 4096) × (c ≤ room)

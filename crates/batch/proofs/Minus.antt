@@ -40,14 +40,8 @@ minus_fits zero h = record { sfits = omega arith }
 minus_fits (suc n) h = record { sfits = omega (arith, h) }
 
 module _ (n : ℕ) (h : n ≤ 14) where
-  pub minus_back : to_z w32 (of_z w32 (minus n)) ≡ minus n
-  minus_back = to_z-of_z {w = w32} (minus_fits n h)
-
   is_minus : pos 0 -ℤ to_z w32 n ≡ minus n
   is_minus = ap (λ (z : ℤ). pos 0 -ℤ z) (to_z_pos w32 {n = n} (omega (arith, h))) ∙ negated n
-
-  pub number_fits : SFits w32 (pos n)
-  number_fits = record { sfits = omega (arith, h) }
 
   pub negation_fits : SFits w32 (pos 0 -ℤ to_z w32 n)
   negation_fits = rw is_minus (minus_fits n h)

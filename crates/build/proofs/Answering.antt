@@ -28,8 +28,3 @@ module _ (p : ℤ) (ts ns : List ℕ) (room : ℕ) (old : List ℤ) where
         → Makes (within (built q (strings ns ts))) r old new → Makes (build p ts ns room) r old new
     unfolding build
     accepted e q d r new m = rw (a, e, ← d) m
-
--- a table that is another's
-pub makes_as : (t u : Table) (r : Result Heading Refusal) (old new : List ℤ) → t ≡ u → Makes (within u) r old new
-    → Makes (within t) r old new
-makes_as t u r old new e m = subst (λ (x : Table). Makes (within x) r old new) (sym e) m

@@ -41,9 +41,6 @@ pub record Walking (w₀ : Standing) (σ : List ℕ) (g : Growing) (s : ℕ) (at
   pub leads : Leads (seen g) g.n s at
   pub left : walk_in w₀ σ ≡ walk_in (standing g s) (drop i σ)
 
-pub walk_starts : (g : Growing) (σ : List ℕ) → Walking (standing g 0) σ g 0 None 0
-walk_starts g σ = record { leads = refl; left = refl }
-
 module _ (w₀ : Standing) (σ : List ℕ) (g : Growing) (s : ℕ) (at : Option ℕ) (i : ℕ) (w : Walking w₀ σ g s at i) where
   module _ (h : i < length σ) where
     abbrev entered : Standing

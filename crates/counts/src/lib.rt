@@ -64,23 +64,15 @@ fn enter(seen: &mut [u8; 1024], s: usize) -> usize
     1
 }
 
-// Counts the states, state 0 first.
-fn count_states(few: FewRows, seen: &mut [u8; 1024]) -> usize
-    requires { Clear seen.old }
-    ensures { result ≡ length (states (rows_in few.entry.rows.numbers.now)) }
-{
-    seen[0] = 1;
-    let mut n = 1;
-    for i in (0..few.rows.count()).rev() {
-        n += enter(seen, few.rows.to(i));
-    }
-    n
-}
-
 // How many states the rows have: 0 and every to.
 pub fn state_count(few: FewRows) -> usize
     ensures { result ≡ length (states (rows_in few.entry.rows.numbers.now)) }
 {
     let mut seen = [0u8; 1024];
-    count_states(few, &mut seen)
+    seen[0] = 1;
+    let mut n = 1;
+    for i in (0..few.rows.count()).rev() {
+        n += enter(&mut seen, few.rows.to(i));
+    }
+    n
 }

@@ -74,14 +74,3 @@ pub fill : (l : List ℤ) (n p : ℕ) (row : List ℤ) → n * 4 + 4 ≤ length 
 unfolding opened inserted
 fill l n p row m h =
     put_after l (take (n * 4 - p * 4) (drop (p * 4) l) ++ drop (n * 4 + 4) l) (p * 4 + 4) p row refl (omega arith)
-
--- a number that was made and passed on
-pub passed_number : (r : ℤ) (n : ℕ) → r ≡ pos n → n ≤ 65535 → to_z w32 (of_z w32 r) ≡ pos n
-passed_number r n e h = ap (λ (z : ℤ). to_z w32 (of_z w32 z)) e ∙ same (pos n) (record { sfits = omega arith })
-
-pub passed_production : (r : ℤ) (p : Option ℕ) → r ≡ signed p → production_fits p ≡ true → to_z w32 (of_z w32 r) ≡ signed p
-unfolding production_fits
-passed_production r none e f = ap (λ (z : ℤ). to_z w32 (of_z w32 z)) e
-passed_production r (some q) e f =
-    ap (λ (z : ℤ). to_z w32 (of_z w32 z)) e
-    ∙ same (pos q) (record { sfits = omega (arith, leb-true q 65535 f) })

@@ -36,17 +36,6 @@ back_is buf a size ys w h =
     drop_at (take a buf) (ys ++ drop (size - a) (drop a buf)) a (length-take-le a buf h)
     ∙ ap (λ (r : List ℤ). ys ++ r) e ∙ append-nil ys
 
--- the first rows of the view, as a part with an end
-pub rows_part : (buf : List ℤ) (a m : ℕ) → take (a + m - a) (drop a buf) ≡ take m (drop a buf)
-rows_part buf a m = let e : a + m - a ≡ m = omega arith in rw e
-
--- ---- what is read and written there
-pub view_set : (buf : List ℤ) (lo i j : ℕ) (z : ℤ)
-    → view (set buf ((lo + i) * 4 + j) z) lo ≡ set (view buf lo) (i * 4 + j) z
-view_set buf lo i j z =
-    let e : (lo + i) * 4 + j ≡ lo * 4 + (i * 4 + j) = omega arith in
-    rw e (drop-set-add (lo * 4) buf (i * 4 + j) z)
-
 -- the room for 1,023 rows, and the rows, are within the array
 pub reached : (buf : List ℤ) (lo : ℕ) → 4092 ≤ length (view buf lo) → lo * 4 + 4092 ≤ length buf
 reached buf lo h = omega (arith, length-drop (lo * 4) buf)
@@ -63,12 +52,6 @@ module _ (buf : List ℤ) (n i : ℕ) (l : Laid buf n) (h : i < n) where
   to_read to ns e d =
       let k : to ≡ (row_held buf n i).to = e ∙ ap (λ (x : List ℤ). (row_at x i).to) d in
       (k, omega (arith, k, to_small))
-
--- ---- what the search there answers
-pub seeks : (buf : List ℤ) (n s t : ℕ) (f : Result ℕ ℕ) → Laid buf n → s ≤ 1023 → Finds (take (n * 4) buf) s t f
-    → Seeks buf n s t f
-seeks buf n s t (Ok i) l h (d, e) = (omega (arith, d, held_numbers buf n (room buf n l)), e)
-seeks buf n s t (Err i) l h (e, p) = record { laid = l; from = h; new = e; place = p }
 
 -- ---- a row put in there, and where the rows begin then
 module _ (buf : List ℤ) (lo n p : ℕ) (row : List ℤ) (four : length row ≡ 4) (h : p ≤ n) (f : n < 1023)

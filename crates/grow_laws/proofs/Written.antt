@@ -87,16 +87,5 @@ module _ (buf : List ℤ) (n : ℕ) (h : n * 4 ≤ length buf) where
   pub held_length : length (held buf n) ≡ n
   held_length = omega (arith, length_rows (take (n * 4) buf), held_numbers)
 
-  -- a row among the first n is the row of the whole array
-  pub held_row : (i : ℕ) → i < n → row_held buf n i ≡ row_at buf i
-  held_row i l =
-      rw (
-        get_or-take (n * 4) buf (i * 4) (pos 0) (omega arith),
-        get_or-take (n * 4) buf (i * 4 + 1) (pos 0) (omega arith),
-        get_or-take (n * 4) buf (i * 4 + 2) (pos 0) (omega arith),
-        get_or-take (n * 4) buf (i * 4 + 3) (pos 0)
-            (omega arith),
-      )
-
   pub held_at : (i : ℕ) → i < n → get_or (held buf n) i no_row ≡ row_held buf n i
   held_at i l = row_there (take (n * 4) buf) i (omega (arith, held_numbers))

@@ -39,32 +39,6 @@ use Rattle.handed.specs.Handed.{
   HandedWritten,
 }
 
--- the first value, said otherwise
-pub first_is : (l : List ℕ) (a b : ℕ) (vs : List ℕ) → l ≡ a ∷ vs → a ≡ b → l ≡ b ∷ vs
-first_is l a b vs e d = e ∙ ap (λ (x : ℕ). x ∷ vs) d
-
--- and the second
-pub second_is : (l : List ℕ) (x a b : ℕ) (vs : List ℕ) → l ≡ x ∷ a ∷ vs → a ≡ b → l ≡ x ∷ b ∷ vs
-second_is l x a b vs e d = e ∙ ap (λ (y : ℕ). x ∷ y ∷ vs) d
-
--- all refusals but 8 and 13 have no detail
-pub no_detail : (f : Refusal) → ((p q : Production) → f ≡ refusal.Clash p q → ⊥) →
-    ((at : ℕ) → f ≡ refusal.Text at → ⊥) → 0 ∷ 0 ∷ 0 ∷ 0 ∷ [] ≡ four (detail f)
-no_detail refusal.Length k h = refl
-no_detail refusal.Range k h = refl
-no_detail refusal.Order k h = refl
-no_detail refusal.Shape k h = refl
-no_detail refusal.Loose k h = refl
-no_detail refusal.Split k h = refl
-no_detail refusal.Tree k h = refl
-no_detail (refusal.Clash p q) k h = absurd (k p q refl)
-no_detail refusal.Mismatch k h = refl
-no_detail refusal.Short k h = refl
-no_detail refusal.None k h = refl
-no_detail refusal.Root k h = refl
-no_detail (refusal.Text at) k h = absurd (h at refl)
-no_detail refusal.Full k h = refl
-
 -- values by way of what an answer holds
 hand_over : {A B : Type 0} (g : Ruling A) (x : Ruling B) (h : A → B) (f : A → List ℕ) (e : B → List ℕ) (r : ℕ)
     (answer : List ℕ) → x ≡ then g (λ a. accept (h a)) → ((a : A) → g ≡ accept a → e (h a) ≡ f a) →

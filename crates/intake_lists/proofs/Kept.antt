@@ -130,8 +130,3 @@ refused (accept m) f old new h =
     let e = h.says in
     let z : ◌≡◌ {A = ℕ} 0 1 = cc in absurd (omega arith)
 refused (refuse n d) f old new h = let e = h.says in cc
-
-pub holds_refused : (g : Ruling Made) (r : Result Heading Refusal) (f : Refusal) (old new buf : List ℤ) → r ≡ Err f →
-    Makes g r old new → Holds g r buf
-holds_refused g r f old new buf e h =
-    rw e (record { is = refused g f old new (rw e at h); few = tt })

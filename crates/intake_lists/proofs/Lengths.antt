@@ -1,4 +1,4 @@
--- The tests of check 1, as the code makes them one after the other, and what they leave. Assumes nothing.
+-- What check 1 leaves. Assumes nothing.
 use mathlib.Core.Path.{◌≡◌}
 use mathlib.Core.Bool.{Bool, true, false, not, ◌||◌}
 use mathlib.Core.List.{List}
@@ -13,31 +13,6 @@ use Rattle.paper.specs.Checks.{little_room}
 use Rattle.paper.specs.Build.{sum}
 use Rattle.intake_lists.specs.Call.{lists_lengths}
 use Rattle.intake_lists.specs.Held.{Passed}
-
-module _ (ps : List ℤ) (cs ns ts : List ℕ) (room : ℕ) where
-  pub room_out : room < 16384 → true ≡ lists_lengths ps cs ns ts room
-  unfolding lists_lengths little_room
-  room_out h = simp (lt-ltb _ _ h)
-
-  module _ (a : 16384 ≤ room) where
-    pub none_out : length ps ≡ 0 → true ≡ lists_lengths ps cs ns ts room
-    unfolding lists_lengths little_room
-    none_out h = simp (le-ltb _ _ a, eq-eqb _ _ h)
-
-    module _ (b : length ps ≡ 0 → ⊥) where
-      pub uneven_out : (length ps ≡ length cs → ⊥) → true ≡ lists_lengths ps cs ns ts room
-      unfolding lists_lengths little_room
-      uneven_out h = simp (le-ltb _ _ a, ne_eqb _ _ b, ne_eqb _ _ h)
-
-      module _ (d : length ps ≡ length cs) where
-        pub strings_out : eqb (sum cs) (length ns) ≡ false → true ≡ lists_lengths ps cs ns ts room
-        unfolding lists_lengths little_room
-        strings_out h = simp (le-ltb _ _ a, ne_eqb _ _ b, eq-eqb _ _ d, h)
-
-        pub tokens_left : eqb (sum cs) (length ns) ≡ true →
-            not (eqb (sum ns) (length ts)) ≡ lists_lengths ps cs ns ts room
-        unfolding lists_lengths little_room
-        tokens_left h = simp (le-ltb _ _ a, ne_eqb _ _ b, eq-eqb _ _ d, h)
 
 -- what the check leaves
 pub passed : (ps : List ℤ) (cs ns ts : List ℕ) (room : ℕ) → lists_lengths ps cs ns ts room ≡ false →

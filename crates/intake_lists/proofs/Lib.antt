@@ -1,4 +1,3 @@
-pub mod Fronts
 pub mod Lengths
 pub mod Kept
 pub mod Joined

@@ -1,22 +1,19 @@
 -- An i32 as the machine reads it back, `to_z w32 (of_z w32 x)`: what its tests and casts say of the number.
 -- Assumes nothing.
-use mathlib.Core.Path.{◌≡◌, refl, sym, ap, ◌∙◌}
+use mathlib.Core.Path.{◌≡◌, refl, sym, ◌∙◌}
 use mathlib.Core.Bool.{true, false, true≢false}
-use Prim.Native.Nat.{ℕ, zero, suc, ◌+◌, ◌-◌, ◌<◌, ◌≤◌, ◌^◌}
+use Prim.Native.Nat.{ℕ, zero, suc, ◌<◌, ◌≤◌, ◌^◌}
 use native.Mathlib.Omega.{arith}
-use native.Mathlib.Numerals.{add-one}
 use borrow.Author.Tests.{ltb-true, lt-leb}
-use mathlib.Core.List.{List}
 use lib.Dec.{T}
-use lib.ListN.{get_or}
 use lib.IntN.{ℤ, pos, negsuc, nat_abs}
 use lib.Signed.{lt_z, le_z, non_neg, mag}
 use mir.Syntax.{w32, w64}
 use mir.Val.{SFits, Fits, to_z, of_z}
-use mir.Facts.{to_z-of_z, to_z_pos}
-use Rattle.paper.specs.Rows.{natural, accepting, signed}
+use mir.Facts.{to_z-of_z}
+use Rattle.paper.specs.Rows.{natural, accepting}
 use Rattle.paper.specs.Checks.{production_fits}
-use Rattle.rows.specs.Places.{Reads, code, uncoded}
+use Rattle.rows.specs.Places.{Reads, code}
 
 castable : (x : ℤ) → SFits w32 x → lt_z x (pos 0) ≡ false → T (non_neg x) × Fits w64 (nat_abs x)
 castable (pos n) h e = (tt, record { fits = omega (arith, h.sfits) })
@@ -26,22 +23,9 @@ bounded : (x : ℤ) → SFits w32 x → nat_abs x ≤ 2147483648
 bounded (pos n) h = omega (arith, h.sfits)
 bounded (negsuc n) h = omega (arith, h.sfits)
 
-as_natural : (x : ℤ) → SFits w32 x → lt_z x (pos 0) ≡ false → Reads (natural x) (nat_abs x)
-as_natural (pos n) h e = record { is = refl; small = bounded (pos n) h }
-as_natural (negsuc n) h e = absurd (true≢false e)
-
 as_below : (x : ℤ) → lt_z x (pos 0) ≡ true → Reads (natural x) 65536
 as_below (pos n) e = absurd (omega (arith, ltb-true n 0 e))
 as_below (negsuc n) e = record { is = refl; small = omega arith }
-
-as_code : (x : ℤ) → SFits w32 x → lt_z x (pos 0) ≡ false → Reads (code (accepting x)) (nat_abs x + 1)
-as_code (pos n) h e = record { is = add-one n; small = omega (arith, h.sfits) }
-as_code (negsuc n) h e = absurd (true≢false e)
-
-as_low : (x : ℤ) → lt_z x (pos 0) ≡ true → (of_z w32 x ≡ 4294967295 → ⊥) → Reads (code (accepting x)) 65537
-as_low (pos n) e m = absurd (omega (arith, ltb-true n 0 e))
-as_low (negsuc zero) e m = absurd (m refl)
-as_low (negsuc (suc n)) e m = record { is = refl; small = omega arith }
 
 module _ (x : ℤ) (fits : SFits w32 x) where
   -- what the cast `x as usize` asks after the test `x < 0`, and what it gives
@@ -49,22 +33,8 @@ module _ (x : ℤ) (fits : SFits w32 x) where
       → T (non_neg (to_z w32 (of_z w32 x))) × Fits w64 (nat_abs (to_z w32 (of_z w32 x)))
   cast = rw (to_z-of_z fits) (castable x fits)
 
-  pub cast_next : Fits w64 (nat_abs (to_z w32 (of_z w32 x)) + 1)
-  cast_next = rw (to_z-of_z fits) (record { fits = omega (arith, bounded x fits) })
-
-  pub is_natural : lt_z (to_z w32 (of_z w32 x)) (pos 0) ≡ false → Reads (natural x) (nat_abs (to_z w32 (of_z w32 x)))
-  is_natural = rw (to_z-of_z fits) (as_natural x fits)
-
   pub is_below : lt_z (to_z w32 (of_z w32 x)) (pos 0) ≡ true → Reads (natural x) 65536
   is_below = rw (to_z-of_z fits) (as_below x)
-
-  pub is_code : lt_z (to_z w32 (of_z w32 x)) (pos 0) ≡ false
-      → Reads (code (accepting x)) (nat_abs (to_z w32 (of_z w32 x)) + 1)
-  is_code = rw (to_z-of_z fits) (as_code x fits)
-
-  pub is_low : lt_z (to_z w32 (of_z w32 x)) (pos 0) ≡ true → (of_z w32 x ≡ 4294967295 → ⊥)
-      → Reads (code (accepting x)) 65537
-  is_low = rw (to_z-of_z fits) (as_low x)
 
 -- the test `x == -1` is one of bits
 pub is_none : (x : ℤ) → SFits w32 x → of_z w32 x ≡ 4294967295 → Reads (code (accepting x)) 0
@@ -94,18 +64,6 @@ module _ (z : ℤ) (fits : SFits w32 z) where
       → le_z (negsuc 0) (to_z w32 (of_z w32 z)) ≡ production_fits (accepting z)
   fits_below = rw (to_z-of_z fits) (below_none z)
 
--- the way back
-pub number_back : (n : ℕ) → n ≤ 65535 → to_z w32 n ≡ pos n
-number_back n h = to_z_pos w32 {n = n} (omega arith)
-
-pub production_back : (n : ℕ) → (n ≡ 0 → ⊥) → n ≤ 65536 → to_z w32 (n - 1) ≡ signed (uncoded n)
-production_back zero m h = absurd (m refl)
-production_back (suc n) m h = to_z_pos w32 {n = suc n - 1} (omega arith) ∙ ap pos (omega arith)
-
-pub none_back : (n : ℕ) → n ≡ 0 → negsuc 0 ≡ signed (uncoded n)
-none_back zero e = refl
-none_back (suc n) e = absurd (omega arith)
-
 -- a parameter that was passed on
 pub same : (x : ℤ) → SFits w32 x → to_z w32 (of_z w32 x) ≡ x
 same x f = to_z-of_z {w = w32} f
@@ -119,15 +77,6 @@ pub kept : (z : ℤ) → code (accepting z) ≤ 65536 → to_z w32 (of_z w32 z) 
 kept (pos n) h = to_z-of_z {w = w32} {z = pos n} (record { sfits = omega arith })
 kept (negsuc zero) h = to_z-of_z {w = w32} {z = negsuc zero} (record { sfits = omega arith })
 kept (negsuc (suc n)) h = absurd (omega arith)
-
--- what was read of a parameter that was passed on
-pub read_passed : (f : ℤ → ℕ) (x : ℤ) (r : ℕ) → SFits w32 x → Reads (f (to_z w32 (of_z w32 x))) r → Reads (f x) r
-read_passed f x r h s = record { is = s.is ∙ ap f (to_z-of_z {w = w32} h); small = s.small }
-
--- what was read at a place of a slice
-pub read_at : (f : ℤ → ℕ) (ns : List ℤ) (j r : ℕ) → mag (get_or ns j (pos 0)) < 2 ^ 31
-    → Reads (f (to_z w32 (of_z w32 (get_or ns j (pos 0))))) r → Reads (f (get_or ns j (pos 0))) r
-read_at f ns j r h s = read_passed f (get_or ns j (pos 0)) r (record { sfits = h }) s
 
 -- a number that is within its bounds is not below 0: what its cast asks, and what it gives
 not_below : (z : ℤ) → natural z ≤ 65535 → SFits w32 z → T (non_neg z) × Fits w64 (nat_abs z)
@@ -148,7 +97,3 @@ plain_read z h m = rw (back z m) (cast_of z h)
 -- numbers as they are stored
 pub stored : (n : ℕ) (z : ℤ) → n ≤ 65535 → z ≡ pos n → to_z w32 (of_z w32 z) ≡ pos n
 stored n z h e = rw e (to_z-of_z {w = w32} {z = pos n} (record { sfits = omega arith }))
-
-pub stored_code : (c : ℕ) (z : ℤ) → c ≤ 65536 → z ≡ signed (uncoded c) → to_z w32 (of_z w32 z) ≡ signed (uncoded c)
-stored_code zero z h e = rw e
-stored_code (suc n) z h e = stored n z (omega arith) e

@@ -23,13 +23,12 @@ fn root_production(lent: Tree) -> Option<Production>
 }
 
 // The rows do not fit: CLASH, wherever it stands, comes before 14.
-#[tactic(auto, using(counts::proofs::Arrays::clear, crate::proofs::Outcomes::full_refuses))]
+#[tactic(auto, using(crate::proofs::Outcomes::full_refuses))]
 fn full(mode: Mode, first: TreeRows, second: TreeRows) -> Result<Heading, Refusal>
     requires { Overflows mode (rows_in first.rows.numbers.now) (rows_in second.rows.numbers.now) }
     ensures { Refuses mode (rows_in first.entry.rows.numbers.now) (rows_in second.entry.rows.numbers.now) result }
 {
-    let mut map = [0u16; 1024];
-    unite_scan::clash(mode, first, second, &mut map)?;
+    unite_scan::clash(mode, first, second)?;
     Err(Refusal::Full)
 }
 
@@ -48,8 +47,7 @@ fn joined(
 {
     let mut growing = Growing::empty();
     growing.copy(first.rows);
-    let mut map = [0u16; 1024];
-    match unite_taking::take_rows(mode, &mut growing, second, &mut map) {
+    match unite_taking::take_rows(mode, &mut growing, second) {
         Ok(()) => Ok(growing.finish(prod0, k, out)),
         Err(Refusal::Full) => full(mode, first, second),
         Err(clash) => Err(clash),

@@ -5,7 +5,6 @@ ghost use Rattle.std.specs.Prelude.{◌≡◌, ◌/◌, ◌<◌, length};
 ghost use Rattle.std.proofs.Math.Option.{some};
 ghost use Rattle.paper.specs.Rows.{rows_in};
 ghost use Rattle.rows.specs.Places.{row_at, given};
-ghost use Rattle.counts.specs.Arrays.{Clear};
 ghost use Rattle.unite_scan.specs.Looking.{state_of, mark, unmark, looked, seek, Looks, Scanned};
 
 use paper::{Mode, Production, Refusal, State, Terminal};
@@ -70,16 +69,11 @@ fn look_up(
 
 // All rows of the second, in order; the map holds the match of each of its states. One walk for this and for `take_rows`
 // would be handed each step as a closure with a contract, longer than the loop.
-pub fn clash(
-    mode: Mode,
-    first: TreeRows,
-    second: TreeRows,
-    map: &mut [u16; 1024],
-) -> Result<(), Refusal>
-    requires { Clear map.old }
+pub fn clash(mode: Mode, first: TreeRows, second: TreeRows) -> Result<(), Refusal>
     ensures { Scanned mode (rows_in first.entry.rows.numbers.now) (rows_in second.entry.rows.numbers.now) result }
 {
     let rows = second.rows;
+    let mut map = [0u16; 1024];
     for i in 0..rows.count() {
         let from = unmark(map[rows.from(i)]);
         let token = Terminal(rows.terminal(i) as u16);

@@ -7,7 +7,6 @@ ghost use Rattle.rows.specs.Places.{given};
 ghost use Rattle.grow_laws.specs.Held.{row_held, Missed};
 ghost use Rattle.grow.specs.Seen.{seen, rows_of};
 ghost use Rattle.trees.proofs.Tree.{Tree};
-ghost use Rattle.counts.specs.Arrays.{Clear};
 ghost use Rattle.unite_taking.specs.Taking.{taking, Takes, Adds, Matches, UnitedRows, Treed};
 
 use grow::Growing;
@@ -95,17 +94,13 @@ fn take_row(
 }
 
 // All rows of the second, in order; the map holds the match of each of its states.
-pub fn take_rows(
-    mode: Mode,
-    growing: &mut Growing,
-    second: TreeRows,
-    map: &mut [u16; 1024],
-) -> Result<(), Refusal>
-    requires { Tree (rows_of growing.old) × Clear map.old }
+pub fn take_rows(mode: Mode, growing: &mut Growing, second: TreeRows) -> Result<(), Refusal>
+    requires { Tree (rows_of growing.old) }
     ensures { UnitedRows mode (rows_of growing.old) (rows_in second.entry.rows.numbers.now)
         growing.new result }
 {
     let rows = second.rows;
+    let mut map = [0u16; 1024];
     for i in 0..rows.count() {
         let from = State(map[rows.from(i)]);
         let token = Terminal(rows.terminal(i) as u16);

@@ -5,6 +5,7 @@ use Prim.Native.Nat.{ℕ}
 use Rattle.std.specs.Prelude.{Ok, Err}
 use Rattle.std.proofs.lemmas.Result.{err_from_is_err_and}
 use Rattle.paper.specs.Rows.{rows_in}
+use Rattle.counts.proofs.Arrays.{clear}
 use Rattle.unite_scan.specs.Looking.{unmark}
 use Rattle.unite_taking.proofs.Ongoing.{tree_of}
 use Rattle.unite_scan.proofs.Scanning.{scan_begins, scan_ends, scan_clashes, scan_on, few_rows, looks_as}
@@ -13,8 +14,8 @@ use Rattle.unite_scan.proofs.clash.Goals as goal
 pub loop-i-init : goal.loop-i-init
 loop-i-init c =
     let a = c.args in
-    scan_begins a.mode (rows_in a.first.rows.numbers.now) a.second.rows.numbers.now a.map.now (tree_of a.first.treed)
-    a.second.treed c.requires
+    scan_begins a.mode (rows_in a.first.rows.numbers.now) a.second.rows.numbers.now _ (tree_of a.first.treed)
+    a.second.treed clear
 
 pub returns-in_err-to : goal.returns-in_err-to
 returns-in_err-to c =

@@ -1,6 +1,7 @@
 use native.Mathlib.Omega.{arith}
 use Rattle.std.specs.Prelude.{Ok, Err}
 use Rattle.std.proofs.lemmas.Result.{err_from_is_err_and}
+use Rattle.counts.proofs.Arrays.{clear}
 use Rattle.grow.specs.Seen.{rows_of}
 use Rattle.unite_taking.proofs.Rowed.{took_as}
 use Rattle.unite_taking.proofs.Ongoing.{begins, ends, row_read, halts, goes_on}
@@ -9,7 +10,7 @@ use Rattle.unite_taking.proofs.take_rows.Goals as goal
 pub loop-i-init : goal.loop-i-init
 loop-i-init c =
     let a = c.args in
-    begins a.mode a.second.rows.numbers.now a.growing.now a.map.now c.requires.0 a.second.treed c.requires.1
+    begins a.mode a.second.rows.numbers.now a.growing.now _ c.requires a.second.treed clear
 
 pub returns-in_err-state : goal.returns-in_err-state
 returns-in_err-state c =

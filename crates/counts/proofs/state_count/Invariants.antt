@@ -6,7 +6,7 @@ use Rattle.paper.specs.Rows.{states}
 use Rattle.rows.specs.Places.{rest}
 use Rattle.counts.specs.Arrays.{Holds}
 use Rattle.counts.specs.Counts.{seen_in}
-use Rattle.counts.proofs.count_states.Given as goal
+use Rattle.counts.proofs.state_count.Given as goal
 
 abbrev pub invariant-loop-i : goal.invariant-loop-i
 invariant-loop-i l =
