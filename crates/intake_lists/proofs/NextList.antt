@@ -1,14 +1,22 @@
 -- The lists that are left: the first one, and what follows it. Assumes nothing.
-use mathlib.Core.Path.{◌≡◌, refl}
+use mathlib.Core.Path.{◌≡◌, refl, ap, ◌∙◌}
 use mathlib.Core.List.{List, [], ◌∷◌}
 use Prim.Native.Nat.{ℕ, zero, suc, ◌+◌, ◌≤◌}
 use native.Mathlib.Omega.{arith}
 use lib.ListN.{length, take, drop, length-drop}
 use lib.IntN.{ℤ}
 use Rattle.paper.specs.Answers.{Ruling, accept, refuse, then, Made}
+use Rattle.std.specs.List as std
+use Rattle.std.proofs.lemmas.List.Sums.{sum_by-cons}
 use Rattle.paper.specs.Build.{sum}
 use Rattle.intake_lists.specs.Call.{Lent, lists_in, join_lent, join_all}
 use Rattle.intake_lists.specs.Held.{Summed}
+
+-- the library's sum is the document's
+pub same_sum : (ns : List ℕ) → std.sum ns ≡ sum ns
+unfolding sum
+same_sum [] = refl
+same_sum (n ∷ ns) = sum_by-cons (λ x. x) n ns ∙ ap (λ m. n + m) (same_sum ns)
 
 sum_split : (c : ℕ) (ns : List ℕ) → sum (take c ns) + sum (drop c ns) ≡ sum ns
 unfolding sum

@@ -1,8 +1,7 @@
 // Demand 3 as one call: its definition and theorems, and the lists as they are lent.
 #![tactic(auto)]
 
-ghost use Rattle.std.specs.Prelude.{◌≡◌, ◌≤◌, length};
-ghost use Rattle.paper.specs.Build.{sum};
+ghost use Rattle.std.specs.Prelude.{◌≡◌, ◌≤◌, length, sum};
 ghost use Rattle.intake_lists.specs.Held.{Summed};
 
 use paper::StringList;
@@ -55,9 +54,5 @@ fn total(lengths: &[usize], tokens: &[u16]) -> usize
     requires { sum lengths.now ≤ length tokens.now }
     ensures { result ≡ sum lengths.now }
 {
-    let mut n = 0;
-    for length in lengths {
-        n += *length;
-    }
-    n
+    lengths.iter().sum()
 }

@@ -62,7 +62,7 @@ impl<'a> Rows<'a> {
         requires { i < length self.numbers.now / 4 }
         ensures { result ≡ key (row_at self.entry.numbers.now i) }
     {
-        self.column(i, 0) * 65536 + self.column(i, 1)
+        numbers::key_at(self.numbers, i)
     }
 
     // The number in column c of row i, which no check lets be below 0.

@@ -1,8 +1,8 @@
 // Where a table's i32 numbers become states, terminals and productions, and back.
-ghost use Rattle.std.specs.Prelude.{◌≡◌, ◌+◌, ◌*◌, ◌<◌, ◌≤◌, length, get_or, pos};
-ghost use Rattle.paper.specs.Rows.{natural, accepting, signed};
-ghost use Rattle.paper.specs.Checks.{production_fits};
-ghost use Rattle.rows.specs.Places.{Reads, code, given, row_at, four};
+ghost use Rattle.std.specs.Prelude.{◌≡◌, ◌+◌, ◌*◌, ◌/◌, ◌<◌, ◌≤◌, true, length, get_or, pos};
+ghost use Rattle.paper.specs.Rows.{natural, accepting, signed, rows_in};
+ghost use Rattle.paper.specs.Checks.{every, row_fits, production_fits};
+ghost use Rattle.rows.specs.Places.{Reads, code, given, row_at, key, four};
 
 use paper::Production;
 
@@ -96,6 +96,14 @@ pub fn to_at(rows: &[i32], i: usize) -> usize
     ensures { Reads (row_at rows.now i).to result }
 {
     column(rows, i, 2)
+}
+
+// Row i's from and terminal in one number, by which rows rise. In rows within their bounds no number is below 0.
+pub fn key_at(rows: &[i32], i: usize) -> usize
+    requires { (every row_fits (rows_in rows.now) ≡ true) × (i < length rows.now / 4) }
+    ensures { result ≡ key (row_at rows.now i) }
+{
+    (rows[i * 4] as usize) * 65536 + (rows[i * 4 + 1] as usize)
 }
 
 // Four numbers, from a place on.

@@ -1,4 +1,4 @@
-use mathlib.Core.Path.{◌≡◌, refl}
+use mathlib.Core.Path.{◌≡◌, refl, ◌∙◌}
 use mathlib.Core.List.{List, ◌∷◌}
 use Prim.Native.Nat.{ℕ, ◌≤◌}
 use borrow.Author.Rules.{rules}
@@ -9,7 +9,7 @@ use mir.Facts.{to_z-of_z}
 use Rattle.paper.specs.Build.{sum}
 use Rattle.intake_lists.specs.Call.{lists_in}
 use Rattle.intake_lists.specs.Held.{Summed}
-use Rattle.intake_lists.proofs.NextList.{next_list, lengths_there, tokens_there, next_summed}
+use Rattle.intake_lists.proofs.NextList.{same_sum, next_list, lengths_there, tokens_there, next_summed}
 use Rattle.intake_lists.proofs.Lists.split_first.Goals as goal
 
 module _ (p : ℤ) (ps : List ℤ) (n : ℕ) (cs ns ts : List ℕ) (s : Summed (p ∷ ps) (n ∷ cs) ns ts)
@@ -32,25 +32,26 @@ split_at-requires c =
 pub total-requires : goal.total-requires
 total-requires c =
     let s = rw (c.in_ok-production.ensures.cases.0, c.in_ok-count.ensures.cases.0) at c.args.self.summed in
-    split_tokens _ _ _ _ _ _ s _ _ _ c.split_at.ensures.front c.split_at.ensures.back refl
+    rw (same_sum c.split_at.result.0.now)
+    (split_tokens _ _ _ _ _ _ s _ _ _ c.split_at.ensures.front c.split_at.ensures.back refl)
 
 pub split_at-requires-2 : goal.split_at-requires-2
 split_at-requires-2 c =
     let s = rw (c.in_ok-production.ensures.cases.0, c.in_ok-count.ensures.cases.0) at c.args.self.summed in
-    rw c.total.ensures (split_tokens _ _ _ _ _ _ s _ _ _ c.split_at.ensures.front c.split_at.ensures.back refl)
+    rw (c.total.ensures, same_sum c.split_at.result.0.now) (split_tokens _ _ _ _ _ _ s _ _ _ c.split_at.ensures.front c.split_at.ensures.back refl)
 
 pub invariant_of-result : goal.invariant_of-result
 invariant_of-result c =
     let s = rw (c.in_ok-production.ensures.cases.0, c.in_ok-count.ensures.cases.0) at c.args.self.summed in
     record {
-      summed = split_summed _ _ _ _ _ _ s _ _ _ c.split_at.ensures.front c.split_at.ensures.back c.total.ensures _
+      summed = split_summed _ _ _ _ _ _ s _ _ _ c.split_at.ensures.front c.split_at.ensures.back (c.total.ensures ∙ same_sum c.split_at.result.0.now) _
           c.split_at-2.ensures.back;
     }
 
 pub returns : goal.returns
 returns c =
     let s = rw (c.in_ok-production.ensures.cases.0, c.in_ok-count.ensures.cases.0) at c.args.self.summed in
-    let e = split_lists _ _ _ _ _ _ s _ _ _ c.split_at.ensures.front c.split_at.ensures.back c.total.ensures _ _
+    let e = split_lists _ _ _ _ _ _ s _ _ _ c.split_at.ensures.front c.split_at.ensures.back (c.total.ensures ∙ same_sum c.split_at.result.0.now) _ _
     c.split_at-2.ensures.front c.split_at-2.ensures.back in
     let z = to_z-of_z {w = w32} {z = c.in_ok-production.production.now} (search rules) in
     rw (c.in_ok-production.ensures.cases.0, c.in_ok-count.ensures.cases.0) (rw z e, refl)
