@@ -7,8 +7,13 @@ use parts::{number, slice};
 // As many rows as a table may have.
 const MOST: usize = 4096;
 
-// Whether an answer and the output are what the rest of a case says, and what is asked besides of a table holds of it.
-pub fn compared<F: FnOnce(Table) -> bool>(
+// Whether an answer and the output are what the rest of a case says.
+pub fn compared(expected: &[usize], answer: Result<Heading, Refusal>, out: &[i32]) -> Outcome {
+    compared_and(expected, answer, out, |_| true)
+}
+
+// The same, and what is asked besides of a table holds of it.
+pub fn compared_and<F: FnOnce(Table) -> bool>(
     expected: &[usize],
     answer: Result<Heading, Refusal>,
     out: &[i32],

@@ -18,5 +18,5 @@ pub fn asked(mut case: Case) -> Outcome {
     };
     let lent = slice::lent(&mut out, case.number());
     let answer = build::build(list, lent);
-    answer::compared(case.rest(), answer, &out, |_| true)
+    answer::compared(case.rest(), answer, &out)
 }

@@ -26,7 +26,7 @@ pub fn asked(mut case: Case) -> Outcome {
     };
     let answer = intake::shrunk_table(lists, lent);
     let windows = case.list();
-    answer::compared(case.rest(), answer, &out, |table| are_told(windows, table))
+    answer::compared_and(case.rest(), answer, &out, |table| are_told(windows, table))
 }
 
 // Six numbers a window: three tokens, and what is predicted.

@@ -12,5 +12,5 @@ pub fn asked(mut case: Case) -> Outcome {
     let table = case.table(&mut rows);
     let lent = slice::lent(&mut out, case.number());
     let answer = shrink::shrink(mode, table, lent);
-    answer::compared(case.rest(), answer, &out, |_| true)
+    answer::compared(case.rest(), answer, &out)
 }

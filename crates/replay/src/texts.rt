@@ -17,7 +17,7 @@ pub fn asked(mut case: Case, bytes: &[u8]) -> Outcome {
         rows: title.rows,
         states: 0,
     });
-    answer::compared(case.list(), answer, &out, |table| is_written(table, text))
+    answer::compared_and(case.list(), answer, &out, |table| is_written(table, text))
 }
 
 // Whether text out writes a table as this text, and nothing behind it. Where it refuses, it writes no byte.

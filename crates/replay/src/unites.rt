@@ -14,5 +14,5 @@ pub fn asked(mut case: Case) -> Outcome {
     let second = case.table(&mut others);
     let lent = slice::lent(&mut out, case.number());
     let answer = unite::unite(mode, first, second, lent);
-    answer::compared(case.rest(), answer, &out, |_| true)
+    answer::compared(case.rest(), answer, &out)
 }

@@ -13,7 +13,7 @@ use Rattle.paper.specs.Text.{text_in}
 use Rattle.laws.proofs.RowNumbers.{table_numbers, slice_numbers}
 use Rattle.text_trips.proofs.Back.{passed}
 use Rattle.text_trips.proofs.Trips.{of_rows}
-use Rattle.report.specs.Rulings.{Taken, of_table, of_text}
+use Rattle.report.specs.Rulings.{Rising, of_table, of_text}
 use Rattle.laws.proofs.Refusals.{refused_is}
 
 -- a table, from what is told of it
@@ -25,7 +25,7 @@ own_table t p k ns a b c = rw (c, ← a, ← b) (table_numbers t)
 pub record Front (input : List ℕ) (p : ℤ) (k n : ℕ) (new : List ℤ) : Type 0 where
   pub few : n ≤ 4096
   pub room : n * 4 ≤ length new
-  pub taken : Taken p k (take (n * 4) new)
+  pub risen : Rising p k (take (n * 4) new)
   pub ruled : of_text input ≡ of_table (table p k (take (n * 4) new))
 
 module _ (input : List ℕ) {old new : List ℤ} where
@@ -44,9 +44,8 @@ module _ (input : List ℕ) {old new : List ℤ} where
       record {
         few = omega (arith, ok.few, x.size);
         room = x.room;
-        taken = record {
-          whole = rw x.front (slice_numbers t.rows ok.few);
-          ranged = rw whole ok.ranged;
+        risen = record {
+          taken = record { whole = rw x.front (slice_numbers t.rows ok.few); ranged = rw whole ok.ranged };
           ordered = rw whole ok.ordered;
         };
         ruled = rw (x.ruled, whole);

@@ -26,7 +26,7 @@ use Rattle.laws.proofs.Refusals.{refuse_accept, refused_is}
 use Rattle.text_trips.proofs.Back.{passes}
 use Rattle.report_lines.specs.declared.sizes.Sizes.{Sizes}
 use Rattle.report_lines.specs.Printed.{three}
-use Rattle.report.specs.Rulings.{Taken, Sized, of_table}
+use Rattle.report.specs.Rulings.{Rising, Sized, of_table}
 
 -- the heading of what shrink makes
 abbrev heading : answers.Made → Heading
@@ -44,12 +44,12 @@ record Shrunk (mode : Mode) (t : Table) (h : Heading) : Type 0 where
   states : h.states ≡ made.states
   rows : h.rows ≡ length made.table.rows
 
-module _ {p : ℤ} {k : ℕ} {ns : List ℤ} (taken : Taken p k ns) where
+module _ {p : ℤ} {k : ℕ} {ns : List ℤ} (risen : Rising p k ns) where
   pub few : length ns ≤ 16384
-  few = (measured ns taken.whole).few
+  few = (measured ns risen.taken.whole).few
 
   pub taken_passed : Passed ns
-  taken_passed = passed p k ns taken.ranged taken.ordered
+  taken_passed = passed p k ns risen.taken.ranged risen.ordered
 
   few_rows : length (rows_in ns) ≤ 4096
   few_rows = omega (arith, length_rows ns, few)
@@ -57,7 +57,7 @@ module _ {p : ℤ} {k : ℕ} {ns : List ℤ} (taken : Taken p k ns) where
   -- 1 does not refuse
   shrink_is : (mode : Mode) (room : ℕ) → 16384 ≤ room → shrink mode p k ns room ≡ shrink_table mode (table p k ns)
   unfolding shrink little_room
-  shrink_is mode room l = rw (taken.whole, le-ltb room 16384 l)
+  shrink_is mode room l = rw (risen.taken.whole, le-ltb room 16384 l)
 
   -- the sizes have five digits at most
   pub table_small : (length (states (rows_in ns)) < 100000) × (length ns / 4 < 100000)

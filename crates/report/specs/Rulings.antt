@@ -13,10 +13,14 @@ use Rattle.report_lines.specs.declared.sizes.AllSizes.{AllSizes}
 use Rattle.report_lines.specs.Printed.{three}
 use Rattle.paper.specs.declared.Refusal.{Refusal}
 
--- A table as text in gives it: a row slice of at most 4,096 rows, with numbers within bounds, that rise.
+-- A table as text in gives it: a row slice of at most 4,096 rows, with numbers within bounds.
 pub record Taken (p : ℤ) (k : ℕ) (ns : List ℤ) : Type 0 where
   pub whole : row_slice ns ≡ false
   pub ranged : range (table p k ns) ≡ false
+
+-- And its rows rise.
+pub record Rising (p : ℤ) (k : ℕ) (ns : List ℤ) : Type 0 where
+  pub taken : Taken p k ns
   pub ordered : order (table p k ns) ≡ false
 
 -- The sizes of a table that shrink takes, once it is shrunk.

@@ -6,7 +6,7 @@ ghost use Rattle.paper.specs.Answers.{refuse, number, detail};
 ghost use Rattle.paper.specs.Rows.{table};
 ghost use Rattle.paper.specs.Shrink.{shrink_table};
 ghost use Rattle.paper.specs.Tabrep.{tabrep, report};
-ghost use Rattle.report.specs.Rulings.{Taken, Sized, Prints, of_table, told};
+ghost use Rattle.report.specs.Rulings.{Rising, Sized, Prints, of_table, told};
 
 use counts::FewRows;
 use paper::{Mode, Refusal, Table};
@@ -15,7 +15,7 @@ use rows::Rows;
 
 // The sizes of what a mode shrinks a table to.
 fn shrunk(mode: Mode, lent: Table, spare: &mut [i32]) -> Result<Sizes, Refusal>
-    requires { Taken lent.prod0 lent.k lent.rows.now × (16384 ≤ length spare.old) }
+    requires { Rising lent.prod0 lent.k lent.rows.now × (16384 ≤ length spare.old) }
     ensures { MatchResult result (Sized mode (table lent.entry.prod0 lent.entry.k lent.entry.rows.now))
         (λ f. shrink_table mode (table lent.entry.prod0 lent.entry.k lent.entry.rows.now)
         ≡ refuse (number f) (detail f)) }
@@ -29,7 +29,7 @@ fn shrunk(mode: Mode, lent: Table, spare: &mut [i32]) -> Result<Sizes, Refusal>
 
 // The sizes of a table that was read, shrunk in both modes, archive first.
 fn sizes_of(lent: Table, spare: &mut [i32]) -> Result<AllSizes, Refusal>
-    requires { Taken lent.prod0 lent.k lent.rows.now × (16384 ≤ length spare.old) }
+    requires { Rising lent.prod0 lent.k lent.rows.now × (16384 ≤ length spare.old) }
     ensures { told result ≡ of_table (table lent.entry.prod0 lent.entry.k lent.entry.rows.now) }
 {
     let archive = shrunk(Mode::Archive, lent, spare)?;
