@@ -3,7 +3,7 @@
 use mathlib.Core.Path.{◌≡◌, ap, sym, ◌∙◌}
 use mathlib.Core.Option.{none, some}
 use mathlib.Core.List.{List}
-use Prim.Native.Nat.{ℕ, suc, ◌+◌, ◌<◌, ◌≤◌}
+use Prim.Native.Nat.{ℕ, suc, ◌<◌, ◌≤◌}
 use native.Mathlib.Omega.{arith}
 use native.Mathlib.Numerals.{add-one}
 use lib.ListN.{length}
@@ -12,12 +12,12 @@ use Rattle.std.specs.Prelude.{Option, Some, None}
 use Rattle.paper.specs.Rows.{Row, find}
 use Rattle.paper.specs.Build.{Standing, insert, enter}
 use Rattle.trees.proofs.Find.{length_insert}
-use Rattle.grow_laws.specs.Held.{held, row_held, Laid, Missed, next, Added}
+use Rattle.grow_laws.specs.Held.{held, row_held, Laid, Missed, next}
 use Rattle.grow_laws.proofs.Written.{held_length}
 use Rattle.grow_laws.proofs.Placed.{room}
 use Rattle.grow_laws.proofs.Viewed.{to_small}
 use Rattle.grow.specs.declared.Growing.{Growing}
-use Rattle.grow.specs.Seen.{seen, rows_of}
+use Rattle.grow.specs.Seen.{seen, rows_of, Grown}
 use Rattle.build_string.specs.Steps.{Leads, Stands}
 
 pub state_small : (buf : List ℤ) (n s : ℕ) (at : Option ℕ) → Laid buf n → Leads buf n s at → s ≤ 1023
@@ -53,16 +53,16 @@ module _ (g : Growing) (s t : ℕ) where
       )
 
   -- into a new state
-  pub grows : (i : ℕ) (h : Growing) → Missed (seen g) g.n i s t → Added (seen g) (seen h) g.n i s t none
-      → h.n ≡ g.n + 1 → Stands h (g.n + 1) (Some i) (enter rs s t (find rs s t))
-  grows i h m a e =
-      let k : h.n ≡ suc g.n = e ∙ add-one g.n in
+  pub grows : (i : ℕ) (h : Growing) (to : ℕ) → Missed (seen g) g.n i s t → Grown g h i s t none to
+      → Stands h to (Some i) (enter rs s t (find rs s t))
+  grows i h to m a =
+      let k : h.n ≡ suc g.n = a.count ∙ add-one g.n in
       let w : enter rs s t (find rs s t) ≡ record { rows = insert (next g.n s t none) rs; state = suc g.n } =
       new_rows m.new ∙ ap (λ (n : ℕ). record { rows = insert (next n s t none) rs; state = suc n }) rows_long in
-      rw (w, add-one) (record {
-        is = λ j. record { rows = (ap (held (seen h)) k ∙ a.rows) j; state = suc g.n };
+      rw (w, a.state, add-one) (record {
+        is = λ j. record { rows = (ap (held (seen h)) k ∙ a.added.rows) j; state = suc g.n };
         leads = (
-          omega (arith, a.there, k),
-          ap (λ (n : ℕ). (row_held (seen h) n i).to) k ∙ ap (λ (x : Row). x.to) a.at,
+          omega (arith, a.added.there, k),
+          ap (λ (n : ℕ). (row_held (seen h) n i).to) k ∙ ap (λ (x : Row). x.to) a.added.at,
         );
       })

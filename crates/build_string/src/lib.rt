@@ -2,7 +2,6 @@
 #![tactic(auto)]
 
 ghost use Rattle.std.specs.Prelude.{◌≤◌};
-ghost use Rattle.grow_laws.specs.Held.{Missed};
 ghost use Rattle.grow.specs.Seen.{seen, rows_of};
 ghost use Rattle.trees.proofs.Tree.{Tree};
 ghost use Rattle.build_string.specs.Steps.{Leads, Enters, Walks, Marked, Adds};
@@ -17,22 +16,6 @@ pub struct Step {
     at: Option<usize>,
 }
 
-// From a state by a token that has no row: into a new state, unless there are 1,023 rows.
-fn grown(rows: &mut Growing, i: usize, state: State, token: Terminal) -> Result<Step, Refusal>
-    requires { Missed (seen rows.old) rows.old.n i state.0 token.0 }
-    ensures { Enters rows.old rows.new state.0 token.0 result }
-{
-    let n = rows.count();
-    if 1023 <= n {
-        return Err(Refusal::Full);
-    }
-    rows.add(i, state, token, None);
-    Ok(Step {
-        state: State((n + 1) as u16),
-        at: Some(i),
-    })
-}
-
 // From a state by a token: along its row, or into a new state.
 fn enter(rows: &mut Growing, state: State, token: Terminal) -> Result<Step, Refusal>
     requires { state.0 ≤ 1023 }
@@ -43,7 +26,10 @@ fn enter(rows: &mut Growing, state: State, token: Terminal) -> Result<Step, Refu
             state: rows.to(i),
             at: Some(i),
         }),
-        Err(i) => grown(rows, i, state, token),
+        Err(i) => {
+            let state = rows.grow(i, state, token, None)?;
+            Ok(Step { state, at: Some(i) })
+        }
     }
 }
 

@@ -7,13 +7,16 @@ ghost use Rattle.paper.specs.Build.{within};
 ghost use Rattle.paper.specs.Rows.{rows_in};
 ghost use Rattle.rows.specs.Places.{given};
 ghost use Rattle.trees.proofs.Tree.{Tree};
-ghost use Rattle.grow_laws.specs.Held.{view, row_held, Laid, table_of, Seeks, Missed, Added, Given};
+ghost use Rattle.grow_laws.specs.Held.{view, row_held, Laid, table_of, Seeks, Missed, Given};
 
 use grow_ends::Spread;
-use paper::{Heading, Production, State, Terminal};
+use paper::{Heading, Production, Refusal, State, Terminal};
 use rows::{Rows, numbers};
 
-// n rows that rise, each within its bounds. That they are a tree give asks: held here, add would ask more of callers.
+// A tree has at most so many rows: one fewer than states.
+const MOST_ROWS: usize = 1023;
+
+// n rows that rise, each within its bounds. That they are a tree give asks: held here, grow would ask more of callers.
 #[derive(Drop)]
 pub struct Growing {
     spread: Spread,
@@ -22,7 +25,7 @@ pub struct Growing {
 }
 
 impl Growing {
-    ghost use Rattle.grow.specs.Seen.{seen, rows_of};
+    ghost use Rattle.grow.specs.Seen.{seen, rows_of, Grows};
 
     // No rows yet.
     pub fn empty() -> Growing
@@ -86,12 +89,20 @@ impl Growing {
         self.rows().production(i)
     }
 
-    // The row from a state by a terminal to the next state is put in at its place i.
-    pub fn add(&mut self, i: usize, from: State, terminal: Terminal, production: Option<Production>)
-        requires { Missed (seen self.old) self.old.n i from.0 terminal.0 × (self.old.n < 1023) }
-        ensures { Added (seen self.old) (seen self.new) self.old.n i from.0 terminal.0 (given production)
-            × (self.new.n ≡ self.old.n + 1) }
+    // A new row at its place i, into a new state, unless there are 1,023 rows.
+    pub fn grow(
+        &mut self,
+        i: usize,
+        from: State,
+        terminal: Terminal,
+        production: Option<Production>,
+    ) -> Result<State, Refusal>
+        requires { Missed (seen self.old) self.old.n i from.0 terminal.0 }
+        ensures { Grows self.old self.new i from.0 terminal.0 (given production) result }
     {
+        if MOST_ROWS <= self.n {
+            return Err(Refusal::Full);
+        }
         let to = numbers::number_of(self.n + 1);
         let row = [
             numbers::number_of(from.0 as usize),
@@ -101,6 +112,7 @@ impl Growing {
         ];
         self.spread.insert(self.n, i, row);
         self.n += 1;
+        Ok(State(self.n as u16))
     }
 
     // The state that row i of a tree leads to gets a production.

@@ -4,17 +4,14 @@
 ghost use Rattle.std.specs.Prelude.{◌≡◌, ◌<◌, ◌≤◌};
 ghost use Rattle.paper.specs.Rows.{find, rows_in};
 ghost use Rattle.rows.specs.Places.{given};
-ghost use Rattle.grow_laws.specs.Held.{row_held, Missed};
+ghost use Rattle.grow_laws.specs.Held.{row_held};
 ghost use Rattle.grow.specs.Seen.{seen, rows_of};
 ghost use Rattle.trees.proofs.Tree.{Tree};
-ghost use Rattle.unite_taking.specs.Taking.{taking, Takes, Adds, Matches, UnitedRows, Treed};
+ghost use Rattle.unite_taking.specs.Taking.{taking, Takes, Matches, UnitedRows, Treed};
 
 use grow::Growing;
 use paper::{Mode, Production, Refusal, State, Terminal};
 use rows::Rows;
-
-// A tree has at most so many rows: one fewer than states.
-const MOST_ROWS: usize = 1023;
 
 // The rows of a tree with at most 1,023 rows.
 #[derive(Clone, Copy)]
@@ -37,25 +34,6 @@ impl<'a> From<ruled::Tree<'a>> for TreeRows<'a> {
     }
 }
 
-// A row that the first does not have: into a new state, unless there are 1,023 rows.
-fn added(
-    growing: &mut Growing,
-    i: usize,
-    from: State,
-    token: Terminal,
-    production: Option<Production>,
-) -> Result<State, Refusal>
-    requires { Missed (seen growing.old) growing.old.n i from.0 token.0 }
-    ensures { Adds growing.new (rows_of growing.old) from.0 token.0 (given production) result }
-{
-    let n = growing.count();
-    if MOST_ROWS <= n {
-        return Err(Refusal::Full);
-    }
-    growing.add(i, from, token, production);
-    Ok(State((n + 1) as u16))
-}
-
 // A row that the first has as its row i: the state that it leads to takes a production.
 #[tactic(auto, unfolding(crate::specs::Taking::taking))]
 fn matched(
@@ -74,7 +52,8 @@ fn matched(
     Ok(state)
 }
 
-// A row from a state by a token: found, or added.
+// A row from a state by a token: found, or added. A row that is found takes a production here, and not in build_string's enter,
+// so that one function for both would be longer.
 fn take_row(
     mode: Mode,
     growing: &mut Growing,
@@ -89,7 +68,7 @@ fn take_row(
 {
     match growing.find(from, token) {
         Ok(i) => matched(mode, growing, i, production),
-        Err(i) => added(growing, i, from, token, production),
+        Err(i) => growing.grow(i, from, token, production),
     }
 }
 

@@ -2,7 +2,7 @@ use mathlib.Core.Path.{ap, sym}
 use Rattle.rows.specs.Places.{given}
 use Rattle.grow.specs.Seen.{rows_of}
 use Rattle.unite_taking.specs.Taking.{taking}
-use Rattle.unite_taking.proofs.Rowed.{took_as}
+use Rattle.unite_taking.proofs.Rowed.{adds, took_as}
 use Rattle.unite_taking.proofs.take_row.Goals as goal
 
 pub returns-in-Ok : goal.returns-in-Ok
@@ -15,6 +15,7 @@ returns-in-Ok c =
 pub returns-in-Err : goal.returns-in-Err
 returns-in-Err c =
     let a = c.args in
-    took_as c.added.new.growing c.added.result
+    took_as c.grow.new.self c.grow.result
     (ap (taking a.mode (rows_of a.growing.now) a.from.0 a.token.0 (given a.production)) (sym c.in-Err.ensures.new))
-    (c.added.ensures a.mode)
+    (adds a.growing.now c.grow.new.self c.in-Err.i a.from.0 a.token.0 (given a.production) c.grow.result c.grow.ensures
+    a.mode)
