@@ -37,10 +37,7 @@ fn top(rows: Rows) -> usize
 {
     let mut top = 1;
     for i in (0..rows.count()).rev() {
-        let to = rows.to(i);
-        if top <= to {
-            top = to + 1;
-        }
+        top = top.max(rows.to(i) + 1);
     }
     top
 }
