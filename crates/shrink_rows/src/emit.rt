@@ -45,6 +45,7 @@ impl<'a> Numbered<'a> {
             at result }
     {
         let rows = self.faces.rows;
+        // no range, as in `hash` of shrink_alike: measured, a fifth to a half slower; and o is the answer too
         let mut o = at;
         for i in self.faces.first[h] as usize..rows.count() {
             if rows.from(i) != h {
