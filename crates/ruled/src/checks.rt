@@ -5,7 +5,7 @@ ghost use Rattle.paper.specs.Checks.{loose, split};
 ghost use Rattle.rows.specs.Places.{row_at, bare};
 ghost use Rattle.ruled.specs.Into.{hangs, differs};
 
-use crate::into::Marks;
+use crate::into::{self, Marks};
 
 // State 0, which no row has to lead to.
 const ROOT: usize = 0;
@@ -19,7 +19,7 @@ fn hangs(marks: Marks, i: usize) -> bool
     if from == ROOT {
         return false;
     }
-    marks.into[from] == 0
+    into::first_row(marks.into, from).is_none()
 }
 
 // 5 LOOSE.
@@ -37,11 +37,14 @@ pub fn loose(marks: Marks) -> bool
 // Row i's production is not that of the first row into its to.
 fn differs(marks: Marks, i: usize) -> bool
     requires { i < length marks.few.rows.numbers.now / 4 }
-    ensures { result ≡ differs (rows_in marks.entry.few.rows.numbers.now) (row_at marks.entry.few.rows.numbers.now i) }
+    ensures { result
+        ≡ differs (rows_in marks.entry.few.rows.numbers.now) (row_at marks.entry.few.rows.numbers.now i) }
 {
     let rows = marks.few.rows;
-    let first = marks.into[rows.to(i)] as usize;
-    rows.production(i) != rows.production(first - 1)
+    match into::first_row(marks.into, rows.to(i)) {
+        None => false,
+        Some(first) => rows.production(i) != rows.production(first),
+    }
 }
 
 // 6 SPLIT.

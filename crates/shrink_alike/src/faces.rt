@@ -10,7 +10,7 @@ ghost use Rattle.shrink_alike.specs.Faces.{coded, mark_in, production_at};
 
 use paper::{Mode, Production};
 use rows::{Rows, numbers};
-use ruled::Ruled;
+use ruled::{Ruled, into};
 
 // No state, in an array over the states: an Option there would take twice the room, and the arrays of a call are fixed.
 pub const NO_STATE: u16 = 65535;
@@ -67,11 +67,10 @@ impl<'a> Faces<'a> {
         requires { s < 1024 }
         ensures { given result ≡ production_at (table_of self.now) s }
     {
-        let j = self.into[s] as usize;
-        if j == 0 {
-            return self.prod0;
+        match into::first_row(self.into, s) {
+            None => self.prod0,
+            Some(i) => self.rows.production(i),
         }
-        self.rows.production(j - 1)
     }
 
     // s is a state: 0, or one that a row leads into.
@@ -79,7 +78,7 @@ impl<'a> Faces<'a> {
         requires { s < 1024 }
         ensures { Tells (State (table_of self.now) s) result }
     {
-        s == 0 || self.into[s] != 0
+        s == 0 || into::first_row(self.into, s).is_some()
     }
 
     // Row i is there, and leaves the state s.
