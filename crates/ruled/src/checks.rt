@@ -26,12 +26,7 @@ fn hangs(marks: Marks, i: usize) -> bool
 pub fn loose(marks: Marks) -> bool
     ensures { result ≡ loose (bare marks.entry.few.rows.numbers.now) }
 {
-    for i in 0..marks.few.rows.count() {
-        if hangs(marks, i) {
-            return true;
-        }
-    }
-    false
+    (0..marks.few.rows.count()).any(|i| hangs(marks, i))
 }
 
 // Row i's production is not that of the first row into its to.
@@ -51,10 +46,5 @@ fn differs(marks: Marks, i: usize) -> bool
 pub fn split(marks: Marks) -> bool
     ensures { result ≡ split (bare marks.entry.few.rows.numbers.now) }
 {
-    for i in 0..marks.few.rows.count() {
-        if differs(marks, i) {
-            return true;
-        }
-    }
-    false
+    (0..marks.few.rows.count()).any(|i| differs(marks, i))
 }
