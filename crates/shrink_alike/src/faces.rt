@@ -16,7 +16,9 @@ use ruled::{Ruled, into};
 pub const NO_STATE: u16 = 65535;
 
 // A table that passed 1 to 6, with the first row into each state (its number plus one; 0 where there is none), the
-// first row from each, and one more than the highest state.
+// first row from each, and one more than the highest state. The methods ask that a state be below 1,024, as an index of
+// its arrays: a type for that would be unwrapped at each. The marks (`class`) stand beside it and not in it, since
+// shrink_classes writes them while it reads the table: a struct of both would be made anew for each state.
 #[derive(Clone, Copy)]
 pub struct Faces<'a> {
     pub mode: Mode,
