@@ -1,17 +1,19 @@
 -- The test of one row for LOOSE, by the mark of its from.
 -- Assumes nothing.
-use mathlib.Core.Path.{◌≡◌, sym, ap, ◌∙◌}
-use mathlib.Core.Bool.{Bool, false, not, ◌&&◌}
+use mathlib.Core.Path.{◌≡◌, refl, sym, ap, ◌∙◌}
+use mathlib.Core.Bool.{Bool, true, false, not, ◌&&◌, false≢true}
 use mathlib.Core.List.{List}
 use Prim.Native.Nat.{ℕ, ◌<◌}
 use native.Mathlib.Omega.{arith}
 use borrow.Author.Tests.{eq-eqb, ne_eqb}
-use lib.Dec.{eqb}
+use lib.Dec.{eqb, eqb-suc-zero}
 use lib.ListN.{get_or}
 use lib.IntN.{ℤ}
+use Rattle.std.specs.Prelude.{Option, Some, None}
+use Rattle.std.specs.Option.{is_some}
 use Rattle.paper.specs.Rows.{Row, rows_in}
 use Rattle.paper.specs.Checks.{any}
-use Rattle.ruled.specs.Into.{Marked, leads, hangs}
+use Rattle.ruled.specs.Into.{Marked, leads, hangs, row_mark}
 use Rattle.ruled.proofs.Firsts.{into_any}
 
 module _ (r : Row) (x : ℕ) (is : x ≡ r.from) where
@@ -27,3 +29,16 @@ module _ (r : Row) (x : ℕ) (is : x ≡ r.from) where
       ap (λ (n : ℕ). eqb n 0) (m.held x l) ∙ into_any ns x
       ∙ ap (λ (s : ℕ). not (any (leads s) (rows_in ns))) is
       ∙ ap (λ (b : Bool). not b && not (any (leads r.from) (rows_in ns))) (sym (ne_eqb r.from 0 z))
+
+-- a row is told by another mark than 0, no row by 0
+pub some_row : (o : Option ℕ) → is_some o ≡ not (eqb (row_mark o) 0)
+unfolding row_mark
+some_row None = refl
+some_row (Some i) = sym (ap not (eqb-suc-zero i))
+
+pub no_row : (o : Option ℕ) (b : Bool) → is_some o ≡ not b → b ≡ eqb (row_mark o) 0
+unfolding row_mark
+no_row None true e = refl
+no_row None false e = absurd (false≢true e)
+no_row (Some i) true e = absurd (false≢true (sym e))
+no_row (Some i) false e = sym (eqb-suc-zero i)

@@ -1,16 +1,17 @@
 -- A test for any row, by the place of a row that passes it.
 -- Assumes nothing.
-use mathlib.Core.Path.{◌≡◌, refl, sym, ◌∙◌}
-use mathlib.Core.Bool.{Bool, true, false, false≢true}
+use mathlib.Core.Path.{◌≡◌, refl, sym, ap, ◌∙◌}
+use mathlib.Core.Bool.{Bool, true, false, ◌||◌, false≢true}
 use mathlib.Core.List.{List}
 use Prim.Native.Nat.{ℕ, zero, suc, ◌+◌, ◌*◌, ◌/◌, ◌<◌}
 use native.Mathlib.Omega.{arith}
 use lib.ListN.{length}
 use lib.IntN.{ℤ}
+use Rattle.std.specs.List.{list_any, range_with_len}
 use Rattle.paper.specs.Rows.{Row, rows_in}
 use Rattle.paper.specs.Checks.{any}
 use Rattle.rows.specs.Places.{row_at, rest}
-use Rattle.rows.proofs.Rest.{any_next, any_here, any_end, by_test}
+use Rattle.rows.proofs.Rest.{rest_cons, any_next, any_here, any_end, by_test}
 
 -- Two tests that are true together are equal.
 pub same_test : (a b : Bool) → (a ≡ true → b ≡ true) → (b ≡ true → a ≡ true) → a ≡ b
@@ -47,3 +48,12 @@ module _ (f : Row → Bool) (ns : List ℤ) where
     where
       zero_add : 0 + r.at ≡ r.at
       zero_add = omega arith
+
+-- the rows from i on, d of them, tested by their places
+pub any_places : (f : Row → Bool) (ns : List ℤ) (d i : ℕ) → i + d ≡ length ns / 4
+    → list_any (λ j. f (row_at ns j)) (range_with_len i d) ≡ any f (rest ns i)
+unfolding any
+any_places f ns zero i h = sym (any_end f ns i (omega arith))
+any_places f ns (suc d) i h =
+    ap (λ (b : Bool). f (row_at ns i) || b) (any_places f ns d (i + 1) (omega arith))
+    ∙ sym (ap (any f) (rest_cons ns i (omega arith)))

@@ -1,5 +1,5 @@
 -- The rows into each state, as one array over the states holds them.
-use Rattle.std.specs.Prelude.{Bool, cond, not, ◌&&◌, List, [], ◌∷◌, ℕ, suc, eqb, ℤ}
+use Rattle.std.specs.Prelude.{Bool, cond, not, ◌&&◌, List, [], ◌∷◌, Option, Some, None, ℕ, suc, eqb, ℤ}
 use Rattle.std.proofs.Math.Option.{none}
 use Rattle.paper.specs.Rows.{Row, rows_in}
 use Rattle.paper.specs.Checks.{any, same_production}
@@ -10,6 +10,11 @@ use Rattle.counts.specs.Arrays.{Holds}
 unfoldable pub into_from : ℕ → List Row → ℕ → ℕ
 into_from i [] s = 0
 into_from i (r ∷ rs) s = cond (eqb r.to s) (suc i) (into_from (suc i) rs s)
+
+-- How the array holds the number of a row: plus one, and 0 for no row.
+unfoldable pub row_mark : Option ℕ → ℕ
+row_mark None = 0
+row_mark (Some i) = suc i
 
 -- The first row into each state.
 abbrev pub Marked : List ℤ → List ℕ → Type 0

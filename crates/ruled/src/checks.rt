@@ -5,7 +5,7 @@ ghost use Rattle.paper.specs.Checks.{loose, split};
 ghost use Rattle.rows.specs.Places.{row_at, bare};
 ghost use Rattle.ruled.specs.Into.{hangs, differs};
 
-use crate::into::Marks;
+use crate::into::{self, Marks};
 
 // State 0, which no row has to lead to.
 const ROOT: usize = 0;
@@ -19,39 +19,32 @@ fn hangs(marks: Marks, i: usize) -> bool
     if from == ROOT {
         return false;
     }
-    marks.into[from] == 0
+    into::first_row(marks.into, from).is_none()
 }
 
 // 5 LOOSE.
 pub fn loose(marks: Marks) -> bool
     ensures { result ≡ loose (bare marks.entry.few.rows.numbers.now) }
 {
-    for i in 0..marks.few.rows.count() {
-        if hangs(marks, i) {
-            return true;
-        }
-    }
-    false
+    (0..marks.few.rows.count()).any(|i| hangs(marks, i))
 }
 
 // Row i's production is not that of the first row into its to.
 fn differs(marks: Marks, i: usize) -> bool
     requires { i < length marks.few.rows.numbers.now / 4 }
-    ensures { result ≡ differs (rows_in marks.entry.few.rows.numbers.now) (row_at marks.entry.few.rows.numbers.now i) }
+    ensures { result
+        ≡ differs (rows_in marks.entry.few.rows.numbers.now) (row_at marks.entry.few.rows.numbers.now i) }
 {
     let rows = marks.few.rows;
-    let first = marks.into[rows.to(i)] as usize;
-    rows.production(i) != rows.production(first - 1)
+    match into::first_row(marks.into, rows.to(i)) {
+        None => false,
+        Some(first) => rows.production(i) != rows.production(first),
+    }
 }
 
 // 6 SPLIT.
 pub fn split(marks: Marks) -> bool
     ensures { result ≡ split (bare marks.entry.few.rows.numbers.now) }
 {
-    for i in 0..marks.few.rows.count() {
-        if differs(marks, i) {
-            return true;
-        }
-    }
-    false
+    (0..marks.few.rows.count()).any(|i| differs(marks, i))
 }

@@ -1,7 +1,7 @@
 // The first row into each state.
 ghost use Rattle.std.specs.Prelude.{◌≡◌, ◌<◌, get_or};
 ghost use Rattle.counts.specs.Arrays.{Clear};
-ghost use Rattle.ruled.specs.Into.{Marked};
+ghost use Rattle.ruled.specs.Into.{Marked, row_mark};
 
 use counts::FewRows;
 
@@ -22,4 +22,14 @@ pub fn mark(few: FewRows, into: &mut [u16; 1024])
     for i in (0..few.rows.count()).rev() {
         into[few.rows.to(i)] = (i + 1) as u16;
     }
+}
+
+// The first row into a state, where the array marks one.
+#[tactic(auto, unfolding(crate::specs::Into::row_mark))]
+pub fn first_row(into: &[u16; 1024], s: usize) -> Option<usize>
+    requires { s < 1024 }
+    ensures { row_mark result ≡ get_or into.now s 0 }
+{
+    let n = into[s] as usize;
+    if n == 0 { None } else { Some(n - 1) }
 }

@@ -24,7 +24,8 @@ struct Sizes {
     states: usize,
 }
 
-// Writes the shrunk table of the classes, with their new numbers.
+// Writes the shrunk table of the classes, with their new numbers. The room is asked for here and below, as `shrink`
+// looked for it: a type for it would hold the lent slice, and every clause would speak of its field.
 fn write(faces: &Faces, class: &[u16; 1024], out: &mut [i32]) -> Sizes
     requires { Classes faces.now.mode (table_of faces.now) class.now × (16384 ≤ length out.old) }
     ensures { Shrunk faces.now.mode (given faces.now.prod0) faces.now.rows.numbers.now out.old out.new result.rows
@@ -43,7 +44,8 @@ fn write(faces: &Faces, class: &[u16; 1024], out: &mut [i32]) -> Sizes
     }
 }
 
-// Writes the shrunk table. The new numbers are held after the classes are known, so that at most four arrays are at once.
+// Writes the shrunk table. The new numbers are held after the classes are known, so that at most four arrays are at
+// once.
 fn write_shrunk(faces: &Faces, out: &mut [i32]) -> Sizes
     requires { 16384 ≤ length out.old }
     ensures { Shrunk faces.now.mode (given faces.now.prod0) faces.now.rows.numbers.now out.old out.new result.rows

@@ -4,7 +4,7 @@ use mathlib.Core.Path.{◌≡◌, refl, sym, ◌∙◌}
 use mathlib.Core.Bool.{Bool, true, false, cond}
 use mathlib.Core.Option.{Option}
 use mathlib.Core.List.{List, [], ◌∷◌}
-use Prim.Native.Nat.{ℕ, suc, ◌-◌, ◌<◌}
+use Prim.Native.Nat.{ℕ, suc, ◌<◌}
 use native.Mathlib.Omega.{arith}
 use lib.Dec.{eqb}
 use lib.ListN.{get_or}
@@ -30,7 +30,5 @@ module _ (ns : List ℤ) (into : List ℕ) (m : Marked ns into) (s : ℕ) (l : s
   pub production_none : (p : Option ℕ) → get_or into s 0 ≡ 0 → p ≡ production_of p (rows_in ns) s
   production_none p z = sym (unentered p 0 (rows_in ns) s (sym (m.held s l) ∙ z))
 
-  pub production_row : (get_or into s 0 ≡ 0 → ⊥) → First ns s (get_or into s 0 - 1)
-  production_row z =
-      let k : get_or into s 0 ≡ suc (get_or into s 0 - 1) = omega (arith, z) in
-      into_row ns s (get_or into s 0 - 1) (sym (m.held s l) ∙ k)
+  pub production_row : (i : ℕ) → suc i ≡ get_or into s 0 → First ns s i
+  production_row i e = into_row ns s i (sym (m.held s l) ∙ sym e)

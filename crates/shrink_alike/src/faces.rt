@@ -10,13 +10,15 @@ ghost use Rattle.shrink_alike.specs.Faces.{coded, mark_in, production_at};
 
 use paper::{Mode, Production};
 use rows::{Rows, numbers};
-use ruled::Ruled;
+use ruled::{Ruled, into};
 
 // No state, in an array over the states: an Option there would take twice the room, and the arrays of a call are fixed.
 pub const NO_STATE: u16 = 65535;
 
 // A table that passed 1 to 6, with the first row into each state (its number plus one; 0 where there is none), the
-// first row from each, and one more than the highest state.
+// first row from each, and one more than the highest state. The methods ask that a state be below 1,024, as an index of
+// its arrays: a type for that would be unwrapped at each. The marks (`class`) stand beside it and not in it, since
+// shrink_classes writes them while it reads the table: a struct of both would be made anew for each state.
 #[derive(Clone, Copy)]
 pub struct Faces<'a> {
     pub mode: Mode,
@@ -37,10 +39,7 @@ fn top(rows: Rows) -> usize
 {
     let mut top = 1;
     for i in (0..rows.count()).rev() {
-        let to = rows.to(i);
-        if top <= to {
-            top = to + 1;
-        }
+        top = top.max(rows.to(i) + 1);
     }
     top
 }
@@ -70,11 +69,10 @@ impl<'a> Faces<'a> {
         requires { s < 1024 }
         ensures { given result ≡ production_at (table_of self.now) s }
     {
-        let j = self.into[s] as usize;
-        if j == 0 {
-            return self.prod0;
+        match into::first_row(self.into, s) {
+            None => self.prod0,
+            Some(i) => self.rows.production(i),
         }
-        self.rows.production(j - 1)
     }
 
     // s is a state: 0, or one that a row leads into.
@@ -82,7 +80,7 @@ impl<'a> Faces<'a> {
         requires { s < 1024 }
         ensures { Tells (State (table_of self.now) s) result }
     {
-        s == 0 || self.into[s] != 0
+        s == 0 || into::first_row(self.into, s).is_some()
     }
 
     // Row i is there, and leaves the state s.

@@ -7,7 +7,8 @@ ghost use Rattle.shrink_classes.specs.Classes.{Chosen, Classes};
 use shrink_alike::faces::{Faces, NO_STATE};
 use shrink_slots::Slots;
 
-// State s gets its mark: the state in its slot, which is s itself if the slot was empty.
+// State s gets its mark: the state in its slot, which is s itself if the slot was empty (NO_STATE: its reason stands
+// beside it).
 fn settle(faces: &Faces, slots: &mut [u16; 1024], class: &mut [u16; 1024], s: usize)
     requires { Open slots.old × (s < 1024) }
     ensures { Chosen faces.now.mode (table_of faces.now) slots.old class.old slots.new class.new s }

@@ -10,7 +10,7 @@ ghost use Rattle.shrink_places.specs.Numbers.{Named, Placing, Placed};
 
 use shrink_alike::faces::{Faces, NO_STATE};
 
-// The mark of s gets the number m if it has none; the next number.
+// The mark of s gets the number m if it has none (NO_STATE: its reason stands beside it); the next number.
 fn place(class: &[u16; 1024], number: &mut [u16; 1024], s: usize, m: usize) -> usize
     requires { (s < 1024) × (mark_in class.now s < 1024) × (m ≤ 1024) }
     ensures { Placing number.old number.new (mark_in class.now s) m result }

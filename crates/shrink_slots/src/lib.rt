@@ -25,7 +25,7 @@ pub struct Slots<'a> {
 }
 
 impl<'a> Slots<'a> {
-    // A slot holds a state that is not like s.
+    // A slot holds a state that is not like s. (NO_STATE is no Option for the reason that stands beside it.)
     fn passes(&self, s: usize, at: usize) -> bool
         requires { (s < 1024) × (at < 1024) }
         ensures { result ≡ passes (alike_in self.now.faces.now self.now.class.now) self.now.held.now s at }

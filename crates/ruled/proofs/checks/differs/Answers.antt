@@ -1,35 +1,45 @@
 -- The test of one row for SPLIT, by the row that marks its to.
 use mathlib.Core.Path.{◌≡◌, refl, ap, ◌∙◌}
 use mathlib.Core.Bool.{not}
-use Prim.Native.Nat.{ℕ, ◌-◌, ◌/◌, ◌<◌, ◌≤◌}
+use Prim.Native.Nat.{ℕ, suc, ◌-◌, ◌/◌, ◌<◌, ◌≤◌}
 use native.Mathlib.Omega.{arith}
 use lib.ListN.{length, get_or}
 use Rattle.rows.specs.Places.{row_at}
 use Rattle.rows.proofs.Codes.{same_given}
 use Rattle.counts.proofs.Arrays.{fitting}
 use Rattle.ruled.specs.declared.into.Marks.{Marks}
+use Rattle.ruled.specs.Into.{row_mark}
 use Rattle.ruled.proofs.Firsts.{First}
 use Rattle.ruled.proofs.Splits.{first_read, differs_mark}
 use Rattle.ruled.proofs.checks.differs.Goals as goal
+use Rattle.ruled.proofs.checks.differs.Goals.{In-Some}
 
--- the row that marks the state that row i leads into
-first : (m : Marks) (i t : ℕ) → i < length m.few.rows.numbers.now / 4 → t ≡ (row_at m.few.rows.numbers.now i).to
-    → (1 ≤ get_or m.into.now t 0)
-    × First m.few.rows.numbers.now (row_at m.few.rows.numbers.now i).to (get_or m.into.now t 0 - 1)
-first m i t l e =
-    first_read m.few.rows.numbers.now m.into.now i t _ (fitting m.few.rows.passed m.few.few) m.marked (omega arith) e refl
+-- what the array says of the state that row i leads into
+read : (m : Marks) (i t n : ℕ) → i < length m.few.rows.numbers.now / 4 → t ≡ (row_at m.few.rows.numbers.now i).to
+    → n ≡ get_or m.into.now t 0 → (1 ≤ n) × First m.few.rows.numbers.now (row_at m.few.rows.numbers.now i).to (n - 1)
+read m i t n l e q =
+    first_read m.few.rows.numbers.now m.into.now i t n (fitting m.few.rows.passed m.few.few) m.marked (omega arith) e q
 
-pub overflow_sub-first : goal.overflow_sub-first
-overflow_sub-first c = (first c.args.marks c.args.i c.to.result c.requires c.to.ensures.0).0
+-- the row that marks it
+first : (c : In-Some) → First c.args.marks.few.rows.numbers.now
+    (row_at c.args.marks.few.rows.numbers.now c.args.i).to c.in-Some.first
+unfolding row_mark
+first c =
+    let k : suc c.in-Some.first - 1 ≡ c.in-Some.first = omega arith in
+    rw k at (read c.args.marks c.args.i c.to.result (suc c.in-Some.first) c.requires c.to.ensures.0 c.in-Some.ensures).1
 
-pub production-requires-2 : goal.production-requires-2
-production-requires-2 c =
-    let f = (first c.args.marks c.args.i c.to.result c.requires c.to.ensures.0).1 in
-    omega (arith, f.there)
+pub production-requires-in-Some : goal.production-requires-in-Some
+production-requires-in-Some c = let f = first (goal.at.production-requires-in-Some c).In-Some in omega (arith, f.there)
 
-pub returns : goal.returns
-returns c =
+pub returns-in-None : goal.returns-in-None
+unfolding row_mark
+returns-in-None c =
+    let f = read c.args.marks c.args.i c.to.result 0 c.requires c.to.ensures.0 c.in-None.ensures in
+    absurd (omega (arith, f.0))
+
+pub returns-in-Some : goal.returns-in-Some
+returns-in-Some c =
     let m = c.args.marks in
-    let f = (first m c.args.i c.to.result c.requires c.to.ensures.0).1 in
-    c.ne.ensures ∙ ap not (same_given _ (λ p q. refl) c.production.result c.production-2.result)
-    ∙ differs_mark m.few.rows.numbers.now c.args.i _ _ _ f c.production.ensures c.production-2.ensures
+    let f = first (goal.at.returns-in-Some c).In-Some in
+    c.ne.ensures ∙ ap not (same_given _ (λ p q. refl) c.production.result c.production-in-Some.result)
+    ∙ differs_mark m.few.rows.numbers.now c.args.i _ _ _ f c.production.ensures c.production-in-Some.ensures

@@ -1,30 +1,20 @@
--- The rows before i do not hang. Assumes nothing.
-use mathlib.Core.Path.{refl, sym, ◌∙◌}
+-- LOOSE is that some row hangs. Assumes nothing.
+use mathlib.Core.Path.{refl, ◌∙◌}
 use native.Mathlib.Omega.{arith}
+use Rattle.std.proofs.Common.{rules}
+use Rattle.std.proofs.lemmas.Iterator.{YieldsList-from_range}
+use Rattle.std.proofs.lemmas.Iterator.Search.{any_from_yields_List}
 use Rattle.paper.specs.Rows.{rows_in}
 use Rattle.paper.specs.Checks.{loose}
-use Rattle.rows.proofs.Rest.{any_next, any_here, any_end}
+use Rattle.rows.specs.Places.{row_at}
 use Rattle.ruled.specs.Into.{hangs}
+use Rattle.ruled.proofs.Somewhere.{any_places}
 use Rattle.ruled.proofs.checks.loose.Goals as goal
-
-pub loop-i-init : goal.loop-i-init
-loop-i-init c = refl
-
-pub returns-then-hangs : goal.returns-then-hangs
-unfolding loose
-returns-then-hangs c =
-    let ns = c.args.marks.few.rows.numbers.now in
-    let e = sym c.hangs.ensures ∙ c.if-hangs.true in
-    sym (c.loop-i.invariant ∙ any_here (hangs (rows_in ns)) ns c.loop-i.i (omega arith) e)
-
-pub loop-i-preserved : goal.loop-i-preserved
-loop-i-preserved c =
-    let ns = c.args.marks.few.rows.numbers.now in
-    let e = sym c.hangs.ensures ∙ c.if-hangs.false in
-    c.loop-i.invariant ∙ any_next (hangs (rows_in ns)) ns c.loop-i.i (omega arith) e
 
 pub returns : goal.returns
 unfolding loose
 returns c =
     let ns = c.args.marks.few.rows.numbers.now in
-    sym (c.loop-i.invariant ∙ any_end (hangs (rows_in ns)) ns c.loop-i.i (omega arith))
+    any_from_yields_List (λ i. hangs (rows_in ns) (row_at ns i)) _ _ c.any.result c.any.ensures.ran
+    (YieldsList-from_range 0 c.count.result c.count.result refl (omega arith)) (λ x b q k. search rules)
+    ∙ any_places (hangs (rows_in ns)) ns c.count.result 0 (omega (arith, c.count.ensures))
