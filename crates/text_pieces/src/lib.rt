@@ -57,8 +57,8 @@ fn number_at(line: &[u8], at: usize) -> Option<(usize, usize)>
     Some((value, at + count))
 }
 
-// The production at a place, -1 or a number, and the place after it. It stays an i32: a number above 65535 is read here,
-// and refused later, with 2 RANGE.
+// The production at a place, -1 or a number, and the place after it. It stays an i32: a number above 65535 is read
+// here, and refused later, with 2 RANGE.
 fn production_at(line: &[u8], at: usize) -> Option<(i32, usize)>
     requires { at ≤ length line.now }
     ensures { result ≡ production_at line.now at }
