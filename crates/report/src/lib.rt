@@ -1,4 +1,4 @@
-// Document 01's program `tabrep`: what it prints for a text.
+// Document 01's program `tabrep`: what it prints for a text. Arrays and no Vec: fixed memory.
 #![tactic(auto)]
 
 ghost use Rattle.std.specs.Prelude.{◌≡◌, ◌≤◌, length, MatchResult};
@@ -14,8 +14,8 @@ use report_lines::sizes::{AllSizes, Sizes};
 use rows::Rows;
 
 // The sizes of what a mode shrinks a table to.
-fn shrunk(mode: Mode, lent: Table, spare: &mut [i32]) -> Result<Sizes, Refusal>
-    requires { Rising lent.prod0 lent.k lent.rows.now × (16384 ≤ length spare.old) }
+fn shrunk(mode: Mode, lent: Table, spare: &mut [i32; 16384]) -> Result<Sizes, Refusal>
+    requires { Rising lent.prod0 lent.k lent.rows.now }
     ensures { MatchResult result (Sized mode (table lent.entry.prod0 lent.entry.k lent.entry.rows.now))
         (λ f. shrink_table mode (table lent.entry.prod0 lent.entry.k lent.entry.rows.now)
         ≡ refuse (number f) (detail f)) }
@@ -28,8 +28,8 @@ fn shrunk(mode: Mode, lent: Table, spare: &mut [i32]) -> Result<Sizes, Refusal>
 }
 
 // The sizes of a table that was read, shrunk in both modes, archive first.
-fn sizes_of(lent: Table, spare: &mut [i32]) -> Result<AllSizes, Refusal>
-    requires { Rising lent.prod0 lent.k lent.rows.now × (16384 ≤ length spare.old) }
+fn sizes_of(lent: Table, spare: &mut [i32; 16384]) -> Result<AllSizes, Refusal>
+    requires { Rising lent.prod0 lent.k lent.rows.now }
     ensures { told result ≡ of_table (table lent.entry.prod0 lent.entry.k lent.entry.rows.now) }
 {
     let archive = shrunk(Mode::Archive, lent, spare)?;

@@ -1,4 +1,4 @@
-// The lines that are printed for a text.
+// The lines that are printed for a text. Arrays and no Vec: fixed memory.
 use paper::Refusal;
 use std::io;
 

@@ -9,8 +9,8 @@ use rows::numbers;
 use text_lines::reading;
 use text_lines::reading::RowLine;
 
-// What is known of the rows so far: how many, whether all are within bounds, whether their keys
-// rise, and the least key that rises.
+// What is known of the rows so far: how many, whether all are within bounds, whether their keys rise, and the least
+// key that rises. Two flags and no refusal: 2 RANGE, of any row or of the head, comes before 3 ORDER of an earlier row.
 #[derive(Clone, Copy, Debug, PartialEq, Eq)]
 pub struct Tally {
     pub rows: usize,
@@ -34,7 +34,8 @@ fn tallied(tally: Tally, row: RowLine) -> Tally
     }
 }
 
-// The pass over the lines from a place on: every row in form, or 13 TEXT with the offset of the first bad line.
+// The pass over the lines from a place on: every row in form, or 13 TEXT with the offset of the first bad line. No
+// iterator of rows, here or in fill: its law would say again what row_from says of the next place.
 pub fn scan(text: &[u8], at: usize) -> Result<Tally, Refusal>
     requires { at ≤ length text.now }
     ensures { stated result ≡ tally_from text.now at start }

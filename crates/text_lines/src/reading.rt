@@ -2,7 +2,7 @@
 ghost use Rattle.std.specs.Prelude.{◌≡◌, ◌≤◌, ◌<◌, ◌==◌, length, position, IfSome};
 ghost use Rattle.text_lines.specs.Reading.{row_of, head_of, line_from, row_from, head_from};
 
-// A row's numbers, and the place of the line after it.
+// A row's numbers, and the place of the line after it. The production stays an i32, as production_at reads it.
 #[derive(Clone, Copy, Debug, PartialEq, Eq)]
 pub struct RowLine {
     pub from: usize,
@@ -69,7 +69,8 @@ fn line_from(text: &[u8], at: usize) -> Option<usize>
     Some(at + lf(text.get(at..)?)?)
 }
 
-// The row whose line begins at a place.
+// The row whose line begins at a place. One function for this and head_from would be handed row_of or head_of as a
+// closure with a contract, longer than both.
 pub fn row_from(text: &[u8], at: usize) -> Option<RowLine>
     ensures value { result ≡ row_from text.now at }
     ensures within { IfSome result (λ r. (r.from < 100000) × (r.terminal < 100000)

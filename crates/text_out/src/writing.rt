@@ -9,7 +9,7 @@ ghost use Rattle.text_out.specs.Added.{Adds};
 use paper::Production;
 use rows::Rows;
 
-// How many digits a number takes.
+// How many digits a number takes. ilog10 was measured, in plain Rust, as a tenth slower for a whole text.
 fn width(n: usize) -> usize
     requires { n < 100000 }
     ensures { result ≡ length (digits 5 n) }
@@ -31,7 +31,8 @@ pub struct Writer<'a> {
 }
 
 impl<'a> Writer<'a> {
-    // A word, byte by byte: copy_from_slice was measured as three times slower on words so short.
+    // A word, byte by byte: copy_from_slice was measured as three times slower on words so short, and zip in place of
+    // the index, in plain Rust, as a third slower for a whole text.
     pub fn put_word(&mut self, word: &[u8])
         requires { self.old.at + length word.now ≤ length self.old.out.now }
         ensures { Adds self.old self.new (length word.now) word.now }
@@ -42,7 +43,8 @@ impl<'a> Writer<'a> {
         self.at += word.len();
     }
 
-    // A number, its last digit first.
+    // A number of five digits at most, for which the room was counted, its last digit first. By hand: itoa prints into
+    // a buffer of its own, from which the digits would be copied, and write! can fail, which this can't.
     fn put_number(&mut self, n: usize)
         requires { (self.old.at + 5 ≤ length self.old.out.now) × (n < 100000) }
         ensures { Adds self.old self.new 5 (digits 5 n) }

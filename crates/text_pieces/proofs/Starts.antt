@@ -10,6 +10,7 @@ use native.Mathlib.Omega.{arith}
 use borrow.Author.Tests.{eq-eqb, ne_eqb, eqb-true, eqb-false}
 use lib.Dec.{eqb, eqb-zero-suc, eqb-suc-suc}
 use lib.ListN.{length, take, drop, length-drop}
+use Rattle.std.specs.Bool.{then_some}
 use Rattle.std.specs.Cmp.Lexicographic.{pointwise}
 use Rattle.paper.specs.Text.{past}
 use Rattle.rows.proofs.Rest.{by_test}
@@ -22,9 +23,9 @@ starts_is [] bs = refl
 starts_is (w ∷ ws) [] = refl
 starts_is (w ∷ ws) (b ∷ bs) = by_test (eqb w b) (λ e. rw e (starts_is ws bs)) (λ e. rw e)
 
-and_false : (a : Bool) → (a && false) ≡ false
-and_false true = refl
-and_false false = refl
+pub then_cond : {A : Type 0} (b : Bool) (x : A) → then_some b x ≡ cond b (Some x) None
+then_cond true x = refl
+then_cond false x = refl
 
 -- a word that is all of the rest
 whole_is : (w bs : List ℕ) → pointwise eqb bs w ≡ (starts w bs && eqb (length w) (length bs))

@@ -4,16 +4,14 @@
 ghost use Rattle.std.specs.Prelude.{◌≡◌, ◌<◌, ◌≤◌, length, IfSome};
 ghost use Rattle.text_pieces.specs.Pieces.{past_word, Counts, number_at, production_at, field_at, last_at, ends_at};
 
-// The place after a word that stands at a place.
+use rows::numbers::signed;
+
+// The place after a word that stands at a place; strip_prefix hands out the rest, and callers need the place.
 fn past_word(line: &[u8], at: usize, word: &[u8]) -> Option<usize>
     requires { at ≤ length line.now }
     ensures { result ≡ past_word line.now at word.now }
 {
-    if line[at..].starts_with(word) {
-        Some(at + word.len())
-    } else {
-        None
-    }
+    line[at..].starts_with(word).then_some(at + word.len())
 }
 
 // The most digits of a number in form.
@@ -26,7 +24,7 @@ struct Counted {
     value: usize,
 }
 
-// The digits at the front.
+// The digits at the front, by hand: str::parse wants a &str, which these bytes are not, and takes `+1` and `01`.
 fn digits(bytes: &[u8]) -> Counted
     ensures { Counts bytes.now result.count result.value }
 {
@@ -59,19 +57,21 @@ fn number_at(line: &[u8], at: usize) -> Option<(usize, usize)>
     Some((value, at + count))
 }
 
-// The production at a place, -1 or a number, and the place after it.
+// The production at a place, -1 or a number, and the place after it. It stays an i32: a number above 65535 is read
+// here, and refused later, with 2 RANGE.
 fn production_at(line: &[u8], at: usize) -> Option<(i32, usize)>
     requires { at ≤ length line.now }
     ensures { result ≡ production_at line.now at }
 {
     if let Some(next) = past_word(line, at, b"-1") {
-        return Some((-1, next));
+        return Some((signed(None), next));
     }
     let (value, next) = number_at(line, at)?;
     Some((value as i32, next))
 }
 
-// The number after a word.
+// The number after a word. One function for this and last_at would be handed number_at or production_at as a closure
+// with a contract, longer than both.
 pub fn field_at(line: &[u8], at: usize, word: &[u8]) -> Option<(usize, usize)>
     requires { at ≤ length line.now }
     ensures value { result ≡ field_at line.now at word.now }

@@ -30,7 +30,7 @@ slice_bounds-lent-end c =
 pub sizes_of-requires : goal.sizes_of-requires
 sizes_of-requires c =
     let front = text_taken c.args.input.now _ _ _ c.in_ok-title.ensures in
-    (rw (same c.in_ok-title.title.prod0 (search rules)) front.risen, omega arith)
+    rw (same c.in_ok-title.title.prod0 (search rules)) front.risen
 
 pub returns : goal.returns
 returns c =

@@ -16,14 +16,14 @@ returns-in_err-intake c =
     rw (p.1, p.2) (sym (intake_refused c.in_ok-archive.ensures c.in_err-intake.ensures))
 
 pub invariant_of-few : goal.invariant_of-few
-invariant_of-few c = record { passed = taken_passed c.requires.0 }
+invariant_of-few c = record { passed = taken_passed c.requires }
 
 pub invariant_of-few-2 : goal.invariant_of-few-2
-invariant_of-few-2 c = record { few = few c.requires.0 }
+invariant_of-few-2 c = record { few = few c.requires }
 
 pub invariant_of-table : goal.invariant_of-table
 invariant_of-table c =
-    let small = table_small c.requires.0 in
+    let small = table_small c.requires in
     record { small = (omega (arith, c.state_count.ensures, small), small.1) }
 
 pub returns : goal.returns

@@ -13,7 +13,7 @@ unfolding production_at bytes
 returns-in-Some c =
     let a = c.args in
     let found = past_found _ a.line.now a.at _ c.requires (sym c.past_word.ensures ∙ c.in-Some.is) in
-    rw (found.0, found.1)
+    rw (found.0, found.1, c.signed.ensures)
 
 pub returns-in_err-value : goal.returns-in_err-value
 unfolding production_at bytes
