@@ -10,7 +10,7 @@ ghost use Rattle.predict.specs.Checked.{checked};
 use paper::{Mode, Prediction, Refusal, Table};
 use row_checks::Checked;
 
-// A refusal's number, below 0.
+// A refusal's number, below 0: the answers are a slice of numbers, since C lends it.
 fn below(f: Refusal) -> i32
     ensures { result ≡ minus (number f) }
 {
@@ -66,7 +66,7 @@ fn window(mode: Mode, lent: Checked, stream: usize, tokens: &[u16], at: usize) -
     answered(predict::predict_checked(mode, lent, stream, part))
 }
 
-// The answers for all windows.
+// The answers for all windows. No chunks_exact: it asks for a k above 0, and a window may have no token.
 fn fill(mode: Mode, lent: Checked, stream: usize, count: usize, tokens: &[u16], answers: &mut [i32])
     requires { (length tokens.now ≡ count * lent.table.k) × (count ≤ 4096) × (count ≤ length answers.old) }
     ensures { answers.new

@@ -3,7 +3,8 @@ use paper::Refusal;
 use std::io;
 use std::io::{ErrorKind, Read};
 
-// What a call answered: the refusal, if there was one, and whether that and all else is as the list says.
+// What a call answered: the refusal, if there was one, and whether that and all else is as the list says. Both are
+// counted, and neither follows from the other.
 #[derive(Clone, Copy)]
 pub struct Outcome {
     pub refusal: Option<Refusal>,

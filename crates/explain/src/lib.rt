@@ -58,7 +58,8 @@ pub struct Part {
 
 // The rows that leave the state where a walk stopped.
 fn left_rows(rows: Rows, s: Stop) -> Part
-    ensures { Lies rows.entry.numbers.now (left_rows rows.entry.numbers.now (rows_in rows.entry.numbers.now) (stopped s)) result }
+    ensures { Lies rows.entry.numbers.now
+        (left_rows rows.entry.numbers.now (rows_in rows.entry.numbers.now) (stopped s)) result }
 {
     let n = rows.numbers.len();
     if !s.more {
@@ -74,7 +75,8 @@ fn left_rows(rows: Rows, s: Stop) -> Part
     }
 }
 
-// Where the rows that leave the stopped state lie; at the slice's end, and none, after a refusal.
+// Where the rows that leave the stopped state lie; at the slice's end, and none, after a refusal, since
+// the call for C can't fail.
 pub fn place(lent: Table, tokens: &[u16]) -> Part
     ensures { Lies lent.entry.rows.now (stretch lent.entry.prod0 lent.entry.k lent.entry.rows.now tokens.now) result }
 {

@@ -1,7 +1,7 @@
 // A table's rows as they grow: they stand in an array from a row on, and a new row moves the fewer of them, up or down.
 #![tactic(auto)]
 
-ghost use Rattle.std.specs.Prelude.{◌≡◌, ◌+◌, ◌*◌, ◌<◌, ◌≤◌, ◌/◌, length, take, Ok};
+ghost use Rattle.std.specs.Prelude.{◌≡◌, ◌+◌, ◌*◌, ◌<◌, ◌≤◌, ◌/◌, length, take, drop, Ok};
 ghost use Rattle.paper.specs.Answers.{Makes};
 ghost use Rattle.paper.specs.Build.{within};
 ghost use Rattle.paper.specs.Rows.{rows_in};
@@ -42,7 +42,9 @@ impl Growing {
     pub fn copy(&mut self, rows: Rows)
         requires { (length rows.numbers.now ≤ 4092)
             × (length rows.numbers.now / 4 * 4 ≡ length rows.numbers.now) }
-        ensures { rows_of self.new ≡ rows_in rows.entry.numbers.now }
+        ensures is { rows_of self.new ≡ rows_in rows.entry.numbers.now }
+        ensures rest { drop (length rows.entry.numbers.now) (seen self.new)
+            ≡ drop (length rows.entry.numbers.now) (seen self.old) }
     {
         self.spread.copy(rows.numbers);
         self.n = rows.count();

@@ -1,13 +1,13 @@
 // A row put in among rows that begin at row lo of an array: the rows at the nearer end make room for it.
 #![tactic(auto, using(grow_laws::proofs::Viewed::reached, grow_laws::proofs::PutIn::slid_inserted))]
 
-ghost use Rattle.std.specs.Prelude.{◌≡◌, ◌*◌, ◌<◌, ◌≤◌, length, take, set};
+ghost use Rattle.std.specs.Prelude.{◌≡◌, ◌*◌, ◌<◌, ◌≤◌, length, take, drop, set};
 ghost use Rattle.grow_laws.specs.Moves.{Inserted, Slid};
 ghost use Rattle.grow_laws.specs.Held.{view};
 
 use grow_moves::{down, up};
 
-// An array in which rows begin at row lo, with room for 1,023.
+// An array in which rows begin at row lo, with room for 1,023; no Vec: nothing is allocated in a call.
 #[derive(Drop)]
 pub struct Spread {
     buf: [i32; 4608],
@@ -44,7 +44,9 @@ impl Spread {
     // Numbers in the place of the first.
     pub fn copy(&mut self, numbers: &[i32])
         requires { length numbers.now ≤ 4092 }
-        ensures { take (length numbers.now) (view self.new.buf self.new.lo) ≡ numbers.now }
+        ensures put { take (length numbers.now) (view self.new.buf self.new.lo) ≡ numbers.now }
+        ensures rest { drop (length numbers.now) (view self.new.buf self.new.lo)
+            ≡ drop (length numbers.now) (view self.old.buf self.old.lo) }
     {
         let first = self.lo * 4;
         self.buf[first..first + numbers.len()].copy_from_slice(numbers);

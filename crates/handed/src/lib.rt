@@ -8,7 +8,8 @@ ghost use Rattle.handed.specs.Handed.{mode_of, four, of_heading, of_title, of_pr
 use paper::{Heading, Mode, Prediction, Refusal, Title};
 use rows::numbers;
 
-// Mode 0 is archive; any other number is intake. (A From would have to stand beside Mode, which knows nothing of C.)
+// Mode 0 is archive; any other number is intake. (The number is C's; Mode stands in paper, which
+// knows nothing of C.)
 pub fn mode_of(mode: u32) -> Mode
     ensures { result ≡ mode_of mode }
 {

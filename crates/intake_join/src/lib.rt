@@ -10,7 +10,8 @@ ghost use Rattle.intake_lists.specs.Split.{list_of};
 use intake_steps::kept::{Kept, Room};
 use paper::{Refusal, StringList};
 
-// One more list, built and united to what there is.
+// One more list, built and united to what there is. The three arrays are lent apart, not as one struct: unite reads two
+// while it writes the third.
 pub fn join_list(
     list: StringList,
     so_far: &mut Kept,

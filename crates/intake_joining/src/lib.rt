@@ -11,7 +11,8 @@ use intake_lists::Lists;
 use intake_steps::kept::{Kept, Room};
 use paper::Refusal;
 
-// The lists, one after the other, joined to what there is.
+// The lists, one after the other, joined to what there is. An iterator's law would say again what split_first says of
+// the lists that are left.
 fn join_all(
     lists: Lists,
     so_far: &mut Kept,

@@ -7,7 +7,7 @@ ghost use Rattle.intake_lists.specs.Held.{Summed};
 use paper::StringList;
 
 // List i has the production productions[i] and counts[i] strings; their lengths follow one another in lengths, their
-// tokens in tokens.
+// tokens in tokens: slices beside one another, as C lends them.
 #[derive(Clone, Copy)]
 pub struct StringLists<'a> {
     pub productions: &'a [i32],

@@ -14,7 +14,7 @@ pub struct Small {
     ghost few: { Few (Ok heading) },
 }
 
-// A table: its heading, and its rows at the front of the array.
+// A table: its heading, and its rows at the front of the array, which is no Vec: nothing is allocated in a call.
 #[derive(Drop)]
 pub struct Kept {
     pub small: Small,
@@ -22,7 +22,7 @@ pub struct Kept {
 }
 
 impl Kept {
-    // No table yet.
+    // No table yet: a heading of no rows, which the first list takes the place of.
     pub fn empty() -> Kept {
         let heading = Heading {
             prod0: -1,

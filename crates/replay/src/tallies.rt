@@ -19,6 +19,7 @@ const CALLS: [Call; 7] = [
 pub struct Tallies {
     cases: usize,
     pub right: usize,
+    // by the call's place in CALLS
     calls: [Tally; 7],
 }
 

@@ -42,7 +42,8 @@ impl<'a> Checked<'a> {
     }
 }
 
-// 1 LENGTH, of a row slice: true when it refuses.
+// 1 LENGTH, of a row slice: true when it refuses. A check is a test here, as in the paper, which lists tests with their
+// numbers; who calls it says the refusal.
 pub fn row_slice(rows: &[i32]) -> bool
     ensures { result ≡ row_slice rows.now }
 {

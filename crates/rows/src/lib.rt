@@ -10,7 +10,8 @@ ghost use Rattle.rows.specs.Passed.{Passed};
 
 use paper::Production;
 
-// Rows that passed the checks 2 and 3, as the numbers of a row slice.
+// Rows that passed the checks 2 and 3, as the numbers of a row slice. A method asks for a row that is there, as a slice
+// asks for its index.
 #[derive(Clone, Copy)]
 pub struct Rows<'a> {
     pub numbers: &'a [i32],

@@ -6,17 +6,17 @@ ghost use Rattle.rows.specs.Places.{Reads, code, given, row_at, key, four};
 
 use paper::Production;
 
-// What stands in a table for no production.
+// What stands in a table for no production: a lent table is a slice of numbers, as C has it.
 const NO_PRODUCTION: i32 = -1;
 
-// A number that may not be below 0.
+// A number that may not be below 0; one that is becomes 65,536, so that one test of its bound refuses both.
 pub fn natural(x: i32) -> usize
     ensures { Reads (natural x) result }
 {
     if x < 0 { 65536 } else { x as usize }
 }
 
-// A production as Rust and C are handed it: 0 for -1, else one more than it.
+// A production as C is handed it: 0 for -1, else one more than it; 65,537, over its bound, for what is below.
 pub fn coded(x: i32) -> usize
     ensures { Reads (code (accepting x)) result }
 {

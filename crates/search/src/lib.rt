@@ -28,8 +28,8 @@ fn scan(rows: Rows, end: usize, x: usize) -> usize
     end
 }
 
-// The first row whose key is at least x, by halves, where it lies from start on. The library's search by halves goes
-// over the elements of a slice, and a row is four of them.
+// The first row whose key is at least x, by halves, where it lies from start on. The library's
+// partition_point over chunks of four would want a second way to read a row's key, with its bounds proved again.
 fn halve(rows: Rows, start: usize, x: usize) -> usize
     requires { Bracket rows.numbers.now x start (length rows.numbers.now / 4) }
     ensures { Lower rows.entry.numbers.now x result }

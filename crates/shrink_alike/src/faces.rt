@@ -65,7 +65,7 @@ impl<'a> Faces<'a> {
     }
 
     // A state's production: that of the first row into it, prod0 where there is none.
-    pub fn production(&self, s: usize) -> Option<Production>
+    pub(crate) fn production(&self, s: usize) -> Option<Production>
         requires { s < 1024 }
         ensures { given result ≡ production_at (table_of self.now) s }
     {

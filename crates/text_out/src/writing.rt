@@ -79,7 +79,7 @@ impl<'a> Writer<'a> {
     }
 
     // The head line.
-    pub fn put_head(&mut self, prod0: Option<Production>, k: usize)
+    pub(crate) fn put_head(&mut self, prod0: Option<Production>, k: usize)
         requires { (self.old.at + 18 ≤ length self.old.out.now) × (k < 100000) }
         ensures { Adds self.old self.new 18 (head_text (signed (given prod0)) k) }
     {
@@ -104,7 +104,7 @@ impl<'a> Writer<'a> {
     }
 
     // A line for each row.
-    pub fn put_rows(&mut self, rows: Rows)
+    pub(crate) fn put_rows(&mut self, rows: Rows)
         requires { self.old.at + length rows.numbers.now * 9 ≤ length self.old.out.now }
         ensures { Adds self.old self.new (length rows.entry.numbers.now * 9)
             (rows_text (rows_in rows.entry.numbers.now)) }

@@ -32,7 +32,8 @@ fn full(mode: Mode, first: TreeRows, second: TreeRows) -> Result<Heading, Refusa
     Err(Refusal::Full)
 }
 
-// The second's rows taken into the first's, and the rows that come of it at the front of the output.
+// The second's rows taken into the first's, and the rows that come of it at the front of the output. The room is asked
+// for once, in `unite`: a struct would hold the lent slice, and each clause speak of its field.
 fn joined(
     mode: Mode,
     prod0: Option<Production>,
