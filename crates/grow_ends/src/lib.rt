@@ -17,7 +17,9 @@ pub struct Spread {
 
 impl Spread {
     // The first row will stand at row 128.
-    pub fn empty() -> Spread {
+    pub fn empty() -> Spread
+        ensures { result.lo ≡ 128 }
+    {
         Spread {
             buf: [0; 4608],
             lo: 128,

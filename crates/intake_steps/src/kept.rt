@@ -1,5 +1,7 @@
 // A table in an array of its own.
 ghost use Rattle.std.specs.Prelude.{◌≡◌, ◌*◌, length, take, Ok};
+ghost use mathlib.Core.Option.{none};
+ghost use Rattle.paper.specs.Rows.{accepting};
 ghost use Rattle.intake_lists.specs.Held.{Few};
 
 use paper::{Heading, Table};
@@ -23,7 +25,12 @@ pub struct Kept {
 
 impl Kept {
     // No table yet: a heading of no rows, which the first list takes the place of.
-    pub fn empty() -> Kept {
+    pub fn empty() -> Kept
+        ensures prod0 { accepting result.small.heading.prod0 ≡ none }
+        ensures k { result.small.heading.k ≡ 0 }
+        ensures rows { result.small.heading.rows ≡ 0 }
+        ensures states { result.small.heading.states ≡ 0 }
+    {
         let heading = Heading {
             prod0: -1,
             k: 0,
