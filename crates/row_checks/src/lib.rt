@@ -94,7 +94,7 @@ fn fits_at(rows: &[i32], i: usize) -> bool
     if 1023 < numbers::to_at(rows, i) {
         return false;
     }
-    numbers::production_fits(rows[i * 4 + 3])
+    numbers::production_fits(numbers::production_at(rows, i))
 }
 
 // 2 and 3 of the rows, in one pass: 2 comes first wherever it stands.

@@ -7,10 +7,19 @@ use Rattle.std.specs.Option.{option_eq}
 use Rattle.std.specs.declared.option.Option as rust
 use Rattle.paper.specs.declared.Production.{Production}
 use Rattle.paper.specs.Checks.{same_production}
-use Prim.Native.Nat.{ℕ}
+use mathlib.Core.Option.{Option, none, some}
+use Prim.Native.Nat.{ℕ, zero, suc}
 use lib.IntN.{ℤ}
 use Rattle.paper.specs.Rows.{Row, accepting}
-use Rattle.rows.specs.Places.{given, row}
+use Rattle.rows.specs.Places.{code, uncoded, given, row}
+
+pub uncoded_code : (q : Option ℕ) → uncoded (code q) ≡ q
+uncoded_code none = refl
+uncoded_code (some q) = refl
+
+pub code_uncoded : (c : ℕ) → code (uncoded c) ≡ c
+code_uncoded zero = refl
+code_uncoded (suc q) = refl
 
 -- the row whose numbers were read
 pub row_as : (r : Row) (f t g : ℕ) (p : ℤ) → f ≡ r.from → t ≡ r.terminal → g ≡ r.to → accepting p ≡ r.production

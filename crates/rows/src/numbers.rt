@@ -98,6 +98,14 @@ pub fn to_at(rows: &[i32], i: usize) -> usize
     column(rows, i, 2)
 }
 
+// Row i's production, as a table holds it.
+pub fn production_at(rows: &[i32], i: usize) -> i32
+    requires { i * 4 + 3 < length rows.now }
+    ensures { result ≡ get_or rows.now (i * 4 + 3) (pos 0) }
+{
+    rows[i * 4 + 3]
+}
+
 // Row i's from and terminal in one number, by which rows rise. In rows within their bounds no number is below 0.
 pub fn key_at(rows: &[i32], i: usize) -> usize
     requires { (every row_fits (rows_in rows.now) ≡ true) × (i < length rows.now / 4) }

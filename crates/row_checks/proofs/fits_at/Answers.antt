@@ -1,8 +1,7 @@
-use mathlib.Core.Path.{◌∙◌}
-use Prim.Native.Nat.{◌+◌, ◌*◌}
-use lib.ListN.{get_or}
-use lib.IntN.{pos}
-use Rattle.rows.proofs.Signed.{back}
+use mathlib.Core.Path.{◌≡◌, ◌∙◌}
+use borrow.Author.Rules.{rules}
+use mir.Syntax.{w32}
+use mir.Val.{to_z, of_z}
 use native.Mathlib.Omega.{arith}
 use Rattle.rows.specs.Places.{row_at}
 use Rattle.rows.proofs.Fits.{from_out, terminal_out, to_out, production_left}
@@ -24,7 +23,8 @@ returns-then-to_at-gt1023 c =
 
 pub returns : goal.returns
 returns c =
-    rw (back (get_or c.args.rows.now (c.args.i * 4 + 3) (pos 0)) c.production_fits-arg-1.given) at c.production_fits.ensures
+    let e : to_z w32 (of_z w32 c.production_at.result) ≡ c.production_at.result = search rules in
+    rw (e ∙ c.production_at.ensures) at c.production_fits.ensures
     ∙ production_left (row_at c.args.rows.now c.args.i)
     (omega (arith, c.from_at.ensures.is)) (omega (arith, c.terminal_at.ensures.is))
     (omega (arith, c.to_at.ensures.is))
