@@ -10,7 +10,7 @@ ghost use Rattle.counts.specs.Counts.{Counted, Entered};
 
 use rows::Rows;
 
-// Rows that passed the checks 1 to 3: the arrays over the states are made of them.
+// Rows that passed the checks 2 and 3, of at most 16,384 numbers: the arrays over the states are made of them.
 #[derive(Clone, Copy)]
 pub struct FewRows<'a> {
     pub rows: Rows<'a>,

@@ -1,17 +1,18 @@
 // The first row into each state.
 ghost use Rattle.std.specs.Prelude.{◌≡◌, ◌<◌, get_or};
-ghost use Rattle.counts.specs.Arrays.{Clear};
+ghost use Rattle.counts.specs.Arrays.{Fitting, Clear};
 ghost use Rattle.ruled.specs.Into.{Marked, row_mark};
 
 use counts::FewRows;
 
-// Rows, and for each state the number, plus one, of the first row into it; 0 where there is none: an Option would take
+// Rows within their bounds, and for each state the number, plus one, of the first row into it; 0 where there is none: an Option would take
 // twice the room, and the arrays of a call are fixed.
 #[derive(Clone, Copy)]
 pub struct Marks<'a> {
-    pub few: FewRows<'a>,
+    pub rows: &'a [i32],
     pub into: &'a [u16; 1024],
-    ghost marked: { Marked few.rows.numbers.now into.now },
+    ghost fitting: { Fitting rows.now },
+    ghost marked: { Marked rows.now into.now },
 }
 
 // Marks each state with the number, plus one, of the first row into it.

@@ -1,7 +1,7 @@
 // Document 01, module 1: the checks 5 and 6, the checks of a call in their order, and tables that passed them.
 #![tactic(auto)]
 
-mod checks;
+pub mod checks;
 pub mod into;
 pub mod verdict;
 

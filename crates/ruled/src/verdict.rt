@@ -21,7 +21,10 @@ fn beyond(few: FewRows) -> Result<(), Refusal>
     }
     let mut first = [0u16; 1024];
     into::mark(few, &mut first);
-    let marks = Marks { few, into: &first };
+    let marks = Marks {
+        rows: few.rows.numbers,
+        into: &first,
+    };
     if checks::loose(marks) {
         return Err(Refusal::Loose);
     }

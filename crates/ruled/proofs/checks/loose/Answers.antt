@@ -1,6 +1,8 @@
 -- LOOSE is that some row hangs. Assumes nothing.
 use mathlib.Core.Path.{refl, ◌∙◌}
+use Prim.Native.Nat.{◌/◌}
 use native.Mathlib.Omega.{arith}
+use lib.ListN.{length}
 use Rattle.std.proofs.Common.{rules}
 use Rattle.std.proofs.lemmas.Iterator.{YieldsList-from_range}
 use Rattle.std.proofs.lemmas.Iterator.Search.{any_from_yields_List}
@@ -14,7 +16,7 @@ use Rattle.ruled.proofs.checks.loose.Goals as goal
 pub returns : goal.returns
 unfolding loose
 returns c =
-    let ns = c.args.marks.few.rows.numbers.now in
+    let ns = c.args.marks.rows.now in
     any_from_yields_List (λ i. hangs (rows_in ns) (row_at ns i)) _ _ c.any.result c.any.ensures.ran
-    (YieldsList-from_range 0 c.count.result c.count.result refl (omega arith)) (λ x b q k. search rules)
-    ∙ any_places (hangs (rows_in ns)) ns c.count.result 0 (omega (arith, c.count.ensures))
+    (YieldsList-from_range 0 (length ns / 4) (length ns / 4) refl (omega arith)) (λ x b q k. search rules)
+    ∙ any_places (hangs (rows_in ns)) ns (length ns / 4) 0 (omega arith)

@@ -1,6 +1,8 @@
 -- SPLIT is that some row differs from the first into its state. Assumes nothing.
 use mathlib.Core.Path.{refl, sym, ◌∙◌}
+use Prim.Native.Nat.{◌/◌}
 use native.Mathlib.Omega.{arith}
+use lib.ListN.{length}
 use Rattle.std.proofs.Common.{rules}
 use Rattle.std.proofs.lemmas.Iterator.{YieldsList-from_range}
 use Rattle.std.proofs.lemmas.Iterator.Search.{any_from_yields_List}
@@ -13,8 +15,8 @@ use Rattle.ruled.proofs.checks.split.Goals as goal
 
 pub returns : goal.returns
 returns c =
-    let ns = c.args.marks.few.rows.numbers.now in
+    let ns = c.args.marks.rows.now in
     any_from_yields_List (λ i. differs (rows_in ns) (row_at ns i)) _ _ c.any.result c.any.ensures.ran
-    (YieldsList-from_range 0 c.count.result c.count.result refl (omega arith)) (λ x b q k. search rules)
-    ∙ any_places (differs (rows_in ns)) ns c.count.result 0 (omega (arith, c.count.ensures))
+    (YieldsList-from_range 0 (length ns / 4) (length ns / 4) refl (omega arith)) (λ x b q k. search rules)
+    ∙ any_places (differs (rows_in ns)) ns (length ns / 4) 0 (omega arith)
     ∙ sym (split_first ns)
