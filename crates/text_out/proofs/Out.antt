@@ -7,8 +7,7 @@ use native.Mathlib.Omega.{arith}
 use borrow.Author.Tests.{lt-ltb, le-ltb}
 use lib.ListN.{length}
 use lib.IntN.{ℤ, pos}
-use Rattle.std.specs.Prelude.{Ok, Err, Option}
-use Rattle.paper.specs.declared.Production.{Production}
+use Rattle.std.specs.Prelude.{Ok, Err}
 use Rattle.paper.specs.Rows.{table, rows_in, accepting, signed}
 use Rattle.paper.specs.Answers.{Ruling, accept, refuse, number, detail, Writes}
 use Rattle.paper.specs.Checks.{every, row_fits, row_slice, range, plain}
@@ -17,9 +16,9 @@ use Rattle.paper.specs.declared.Refusal.{Refusal}
 use Rattle.laws.proofs.Writing as writing
 use Rattle.laws.proofs.Refusals.{refuse_accept}
 use Rattle.rows.proofs.Rest.{by_test}
-use Rattle.rows.specs.Places.{given, code}
+use Rattle.rows.specs.Places.{code}
 use Rattle.row_checks.specs.Verdicts.{sized, Judges, Passes}
-use Rattle.row_checks.proofs.Judged.{judged, passing, bounded, rows_fit, plain_bounded, plain_passed}
+use Rattle.row_checks.proofs.Judged.{judged, passing, bounded, rows_fit}
 use Rattle.text_laws.specs.Written.{head_text, rows_text}
 use Rattle.text_laws.proofs.Put.{put_front}
 use Rattle.text_laws.proofs.Kept.{production_kept, lines_kept}
@@ -67,12 +66,11 @@ in_range p k ns e =
     let b = bounded (table p k ns) e in record { prod0 = b.prod0; few = b.k; rows = rows_fit (table p k ns) e }
 
 -- the head and the lines are the text
-pub text_parts : (p : ℤ) (k : ℕ) (ns : List ℤ) (root : Option Production) → Passes (plain (table p k ns)) →
-    given root ≡ accepting p → head_text (signed (given root)) k ++ rows_text (rows_in ns) ≡ text p k ns
+pub text_parts : (p : ℤ) (k : ℕ) (ns : List ℤ) → Ranged p k ns →
+    head_text (signed (accepting p)) k ++ rows_text (rows_in ns) ≡ text p k ns
 unfolding head_text text
-text_parts p k ns root h e =
+text_parts p k ns h =
     let w = write head_form (p ∷ pos k ∷ []) in
-    let q : signed (given root) ≡ p = rw e (production_kept p (plain_bounded (table p k ns) h).prod0) in
-    ap (λ (z : ℤ). (write head_form (z ∷ pos k ∷ []) ++ (10 ∷ [])) ++ rows_text (rows_in ns)) q
+    ap (λ (z : ℤ). (write head_form (z ∷ pos k ∷ []) ++ (10 ∷ [])) ++ rows_text (rows_in ns)) (production_kept p h.prod0)
     ∙ append_assoc w (10 ∷ []) (rows_text (rows_in ns))
-    ∙ ap (λ (x : List ℕ). w ++ (10 ∷ x)) (lines_kept ns (plain_passed p k ns h).fits)
+    ∙ ap (λ (x : List ℕ). w ++ (10 ∷ x)) (lines_kept ns h.rows)

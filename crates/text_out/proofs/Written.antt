@@ -1,17 +1,32 @@
 -- The bytes of numbers and lines, as they are written one after another. Assumes nothing.
-use Prim.Native.Nat.{ℕ, ◌+◌, ◌≤◌}
-use mathlib.Core.Path.{◌≡◌, ap, ◌∙◌}
+use Prim.Native.Nat.{ℕ, zero, suc, ◌+◌, ◌-◌, ◌≤◌}
+use mathlib.Core.Path.{◌≡◌, refl, ap, ◌∙◌}
 use mathlib.Core.List.{List, [], ◌∷◌, ◌++◌, append_assoc}
 use native.Mathlib.Omega.{arith}
 use lib.ListN.{length, length-append}
-use lib.IntN.{ℤ, pos}
+use lib.IntN.{ℤ, pos, negsuc}
+use Rattle.paper.specs.Rows.{accepting, signed}
 use Rattle.paper.specs.Words.{bytes}
 use Rattle.paper.specs.Text.{digits, decimal, write, head_form, row_form}
+use Rattle.rows.specs.Places.{code}
 use Rattle.text_laws.specs.Put.{put, Puts}
 use Rattle.text_out.specs.declared.writing.Writer.{Writer}
 use Rattle.text_out.specs.Added.{Adds}
 use Rattle.text_laws.specs.Written.{head_text}
 use Rattle.text_laws.proofs.Put.{put_put}
+
+-- a production by its code
+pub decimal_none : (p : ℤ) → code (accepting p) ≡ 0 → decimal (signed (accepting p)) ≡ 45 ∷ 49 ∷ []
+unfolding decimal bytes
+decimal_none (pos n) e = absurd (omega (arith, e))
+decimal_none (negsuc zero) e = refl
+decimal_none (negsuc (suc n)) e = absurd (omega (arith, e))
+
+pub decimal_some : (p : ℤ) (c : ℕ) → c ≡ code (accepting p) → (c ≡ 0 → ⊥) → decimal (signed (accepting p)) ≡ digits 5 (c - 1)
+unfolding decimal
+decimal_some (pos n) c e h = let k : c - 1 ≡ n = omega (arith, e) in rw k
+decimal_some (negsuc zero) c e h = absurd (h e)
+decimal_some (negsuc (suc n)) c e h = let k : c - 1 ≡ 65536 = omega (arith, e) in rw k
 
 module _ {a b : Writer} {r : ℕ} {x : List ℕ} (p : Adds a b r x) where
   -- what is written on from where a writing ends is one writing

@@ -19,9 +19,9 @@ pub fn text_out(table: Table, out: &mut [u8]) -> Result<usize, Refusal>
     if out.len() < 262144 {
         return Err(Refusal::Length);
     }
-    let checked = row_checks::plain(table)?;
+    row_checks::plain(table)?;
     let mut writer = Writer { out, at: 0 };
-    writer.put_head(checked.root(), table.k);
-    writer.put_rows(checked.rows());
+    writer.put_head(table.prod0, table.k);
+    writer.put_rows(table.rows);
     Ok(writer.at)
 }

@@ -1,13 +1,13 @@
 // Text out: words, numbers and lines, one after another.
-ghost use Rattle.std.specs.Prelude.{◌≡◌, ◌+◌, ◌*◌, ◌<◌, ◌≤◌, ◌++◌, length, pos};
-ghost use Rattle.paper.specs.Rows.{signed, rows_in};
+ghost use Rattle.std.specs.Prelude.{◌≡◌, true, ◌+◌, ◌*◌, ◌<◌, ◌≤◌, ◌++◌, length};
+ghost use Rattle.paper.specs.Rows.{accepting, signed, rows_in};
+ghost use Rattle.paper.specs.Checks.{every, row_fits};
 ghost use Rattle.paper.specs.Text.{digits, decimal};
-ghost use Rattle.rows.specs.Places.{given, row};
+ghost use Rattle.rows.specs.Places.{code, row};
 ghost use Rattle.text_laws.specs.Written.{head_text, row_text, rows_text};
 ghost use Rattle.text_out.specs.Added.{Adds};
 
-use paper::Production;
-use rows::Rows;
+use rows::numbers;
 
 // How many digits a number takes. ilog10 was measured, in plain Rust, as a tenth slower for a whole text.
 fn width(n: usize) -> usize
@@ -58,14 +58,16 @@ impl<'a> Writer<'a> {
         self.at += count;
     }
 
-    // A production, or -1 for none.
-    fn put_production(&mut self, production: Option<Production>)
-        requires { self.old.at + 5 ≤ length self.old.out.now }
-        ensures { Adds self.old self.new 5 (decimal (signed (given production))) }
+    // A production as a table holds it: -1 for none.
+    fn put_production(&mut self, production: i32)
+        requires { (self.old.at + 5 ≤ length self.old.out.now) × (code (accepting production) ≤ 100000) }
+        ensures { Adds self.old self.new 5 (decimal (signed (accepting production))) }
     {
-        match production {
-            None => self.put_word(b"-1"),
-            Some(q) => self.put_number(usize::from(q.0)),
+        let code = numbers::coded(production);
+        if code == 0 {
+            self.put_word(b"-1");
+        } else {
+            self.put_number(code - 1);
         }
     }
 
@@ -79,9 +81,9 @@ impl<'a> Writer<'a> {
     }
 
     // The head line.
-    pub(crate) fn put_head(&mut self, prod0: Option<Production>, k: usize)
-        requires { (self.old.at + 18 ≤ length self.old.out.now) × (k < 100000) }
-        ensures { Adds self.old self.new 18 (head_text (signed (given prod0)) k) }
+    pub fn put_head(&mut self, prod0: i32, k: usize)
+        requires { (self.old.at + 18 ≤ length self.old.out.now) × (code (accepting prod0) ≤ 100000) × (k < 100000) }
+        ensures { Adds self.old self.new 18 (head_text (signed (accepting prod0)) k) }
     {
         self.put_word(b"Dfa(");
         self.put_production(prod0);
@@ -90,10 +92,10 @@ impl<'a> Writer<'a> {
     }
 
     // A row's line.
-    fn put_row(&mut self, from: usize, terminal: usize, to: usize, production: Option<Production>)
+    fn put_row(&mut self, from: usize, terminal: usize, to: usize, production: i32)
         requires { (self.old.at + 35 ≤ length self.old.out.now) × (from < 100000) × (terminal < 100000)
-            × (to < 100000) }
-        ensures { Adds self.old self.new 35 (row_text (row from terminal to (signed (given production)))) }
+            × (to < 100000) × (code (accepting production) ≤ 100000) }
+        ensures { Adds self.old self.new 35 (row_text (row from terminal to production)) }
     {
         self.put_field(b"Trans(", from);
         self.put_field(b", ", terminal);
@@ -103,18 +105,18 @@ impl<'a> Writer<'a> {
         self.put_word(b"),\n");
     }
 
-    // A line for each row.
-    pub(crate) fn put_rows(&mut self, rows: Rows)
-        requires { self.old.at + length rows.numbers.now * 9 ≤ length self.old.out.now }
-        ensures { Adds self.old self.new (length rows.entry.numbers.now * 9)
-            (rows_text (rows_in rows.entry.numbers.now)) }
+    // A line for each row of a slice whose rows are within their bounds, risen or not.
+    pub fn put_rows(&mut self, rows: &[i32])
+        requires { (self.old.at + length rows.now * 9 ≤ length self.old.out.now)
+            × (every row_fits (rows_in rows.now) ≡ true) }
+        ensures { Adds self.old self.new (length rows.now * 9) (rows_text (rows_in rows.now)) }
     {
-        for i in 0..rows.count() {
+        for i in 0..rows.len() / 4 {
             self.put_row(
-                rows.from(i),
-                rows.terminal(i),
-                rows.to(i),
-                rows.production(i),
+                numbers::from_at(rows, i),
+                numbers::terminal_at(rows, i),
+                numbers::to_at(rows, i),
+                numbers::production_at(rows, i),
             );
         }
     }

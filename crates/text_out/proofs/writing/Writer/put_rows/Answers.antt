@@ -1,9 +1,10 @@
 -- `text_out::writing::Writer::put_rows` meets its contract. A row more, and all rows. Assumes nothing.
-use Rattle.std.proofs.Common.{◌≡◌, ◌∙◌, ◌+◌, ◌*◌, ◌<◌, ◌≤◌, [], refl, sym, ap, length, arith}
-use Rattle.paper.specs.Rows.{signed}
-use Rattle.laws.proofs.RowNumbers.{accepting_signed}
-use Rattle.rows.specs.Places.{given, row, row_at, rest}
+use Rattle.std.proofs.Common.{◌≡◌, ◌∙◌, ◌+◌, ◌*◌, ◌<◌, ◌≤◌, [], refl, sym, ap, length, arith, rules, get_or, pos}
+use mir.Syntax.{w32}
+use mir.Val.{to_z, of_z}
+use Rattle.rows.specs.Places.{row, row_at, rest}
 use Rattle.rows.proofs.Codes.{row_as}
+use Rattle.rows.proofs.Fits.{fits_at}
 use Rattle.text_laws.specs.Written.{row_text, rows_text}
 use Rattle.text_laws.proofs.Put.{put_nil}
 use Rattle.text_out.specs.Added.{Adds}
@@ -14,17 +15,27 @@ pub loop-i-init : goal.loop-i-init
 loop-i-init c = record { within = omega arith; long = refl; same = refl; place = refl; holds = refl }
 
 pub put_row-requires : goal.put_row-requires
-put_row-requires c = (omega arith, omega arith, omega arith, omega arith)
+put_row-requires c =
+    let ns = c.args.rows.now in
+    let f = fits_at ns c.requires.1 c.loop-i.i (omega arith) in
+    let e : to_z w32 (of_z w32 c.production_at.result) ≡ c.production_at.result = search rules in (
+      omega arith,
+      omega (arith, c.from_at.ensures.is, f.from),
+      omega (arith, c.terminal_at.ensures.is, f.terminal),
+      omega (arith, c.to_at.ensures.is, f.to),
+      rw (e ∙ c.production_at.ensures) (omega (arith, f.production)),
+    )
 
 pub loop-i-preserved : goal.loop-i-preserved
 loop-i-preserved c =
     let p = c.loop-i in
-    let ns = c.args.rows.numbers.now in
+    let ns = c.args.rows.now in
     let h : p.i * 4 + 3 < length ns = omega arith in
-    let made : row c.from.result c.terminal.result c.to.result (signed (given c.production.result)) ≡ row_at ns p.i =
-    row_as (row_at ns p.i) _ _ _ _ c.from.ensures.0 c.terminal.ensures.0 c.to.ensures.0
-    (accepting_signed (given c.production.result) ∙ c.production.ensures) in
-    let put : Adds p.self c.put_row.new.self 35 (row_text (row_at ns p.i)) = rw made at c.put_row.ensures in
+    let made : row c.from_at.result c.terminal_at.result c.to_at.result (get_or ns (p.i * 4 + 3) (pos 0)) ≡ row_at ns p.i =
+    row_as (row_at ns p.i) _ _ _ _ c.from_at.ensures.is c.terminal_at.ensures.is c.to_at.ensures.is refl in
+    let e : to_z w32 (of_z w32 c.production_at.result) ≡ c.production_at.result = search rules in
+    let read = rw (e ∙ c.production_at.ensures) at c.put_row.ensures in
+    let put : Adds p.self c.put_row.new.self 35 (row_text (row_at ns p.i)) = rw made at read in
     let room : p.self.at + 35 ≤ length p.self.out.now = omega arith in
     record {
       within = omega arith;
@@ -37,7 +48,7 @@ loop-i-preserved c =
 pub returns : goal.returns
 returns c =
     let p = c.loop-i in
-    let ns = c.args.rows.numbers.now in
+    let ns = c.args.rows.now in
     let e : rows_text (rest ns p.i) ≡ [] = rows_none ns p.i (omega arith) in
     record {
       place = omega (arith, p.invariant.place, ap length e);

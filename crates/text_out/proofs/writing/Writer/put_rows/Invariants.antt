@@ -14,8 +14,8 @@ invariant-loop-i l = record {
   within : l.self.at ≤ l.initial.self.at + l.i * 36;
   long : length l.self.out.now ≡ length l.initial.self.out.now;
   same : l.self.out.ghost_name ≡ l.initial.self.out.ghost_name;
-  place : l.self.at + length (rows_text (rest l.rows.numbers.now l.i))
-      ≡ l.initial.self.at + length (rows_text (rows_in l.rows.numbers.now));
-  holds : put l.self.out.now l.self.at (rows_text (rest l.rows.numbers.now l.i))
-      ≡ put l.initial.self.out.now l.initial.self.at (rows_text (rows_in l.rows.numbers.now));
+  place : l.self.at + length (rows_text (rest l.rows l.i))
+      ≡ l.initial.self.at + length (rows_text (rows_in l.rows));
+  holds : put l.self.out.now l.self.at (rows_text (rest l.rows l.i))
+      ≡ put l.initial.self.out.now l.initial.self.at (rows_text (rows_in l.rows));
 }
