@@ -17,7 +17,7 @@ use Rattle.text_lines.specs.declared.reading.RowLine.{RowLine}
 use Rattle.text_lines.specs.declared.reading.HeadLine.{HeadLine}
 use Rattle.text_pieces.specs.Pieces.{field_at, last_at, ends_at}
 use Rattle.text_lines.specs.Reading.{on_is, row_of, head_of}
-use Rattle.text_pieces.proofs.Forms.{field_within, last_inside}
+use Rattle.text_pieces.proofs.Forms.{field_within, last_within}
 use Rattle.text_pieces.proofs.Formed.{read_field, read_no_field, read_last, read_no_last, read_end, read_no_end}
 
 -- the numbers of a line's answer
@@ -51,7 +51,7 @@ module _ {A : Type 0} (told : prelude.Option A → Option (List ℤ)) (untold : 
       go : (x : prelude.Option (ℤ × ℕ)) → last_at l at (bytes w) ≡ x →
           told (on_is x next) ≡ before (read (word w ∷ production ∷ ps) (drop at l))
       go (Some (p, n)) e =
-          k p n (last_inside l at (bytes w) h p n e) ∙ ap before (sym (read_last l at ps w p n e))
+          k p n (last_within l at (bytes w) h p n e).inside ∙ ap before (sym (read_last l at ps w p n e))
       go None e = untold ∙ sym (ap before (read_no_last l at ps w e) ∙ kept)
 
   told_end : (at : ℕ) (w : String) (good : A) → at ≤ length l → told (Some good) ≡ before (some []) →

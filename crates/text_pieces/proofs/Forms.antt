@@ -10,8 +10,10 @@ use borrow.Author.Tests.{le-leb, lt-leb, leb-true, eq-eqb, ne_eqb}
 use lib.IntN.{ℤ, negsuc}
 use lib.Dec.{leb}
 use lib.ListN.{length, get_or, drop, length-drop}
+use Rattle.paper.specs.Rows.{accepting}
 use Rattle.paper.specs.Words.{bytes}
 use Rattle.paper.specs.Text.{is_digit, digit_count, value, in_form}
+use Rattle.rows.specs.Places.{code}
 use Rattle.rows.proofs.Rest.{by_test, both}
 use Rattle.text_pieces.specs.Pieces.{starts, Counts, number_at, as_production, production_at, field_at, last_at}
 use Rattle.text_pieces.proofs.Never.{no_pair, one_pair}
@@ -86,18 +88,26 @@ number_within l at v n h e = by_test (in_form (drop at l))
     })
     (λ f. no_pair (rw f at e))
 
-pub production_inside : (l : List ℕ) (at : ℕ) (p : ℤ) (n : ℕ) → at ≤ length l → production_at l at ≡ Some (p, n) → n ≤ length l
+-- the production by its code
+pub production_within : (l : List ℕ) (at : ℕ) (p : ℤ) (n : ℕ) → at ≤ length l → production_at l at ≡ Some (p, n)
+    → Within l (code (accepting p)) n 100001
 unfolding production_at bytes
-production_inside l at p n h e = by_test (starts (45 ∷ 49 ∷ []) (drop at l))
+production_within l at p n h e = by_test (starts (45 ∷ 49 ∷ []) (drop at l))
     (λ f.
     let g : Some (negsuc 0, at + 2) ≡ Some (p, n) = rw f at e in
+    let a = (one_pair g).0 in
     let b = (one_pair g).1 in
-    omega (arith, starts_within (45 ∷ 49 ∷ []) l at h f))
-    (λ f. signed_inside (number_at l at) refl (rw f at e))
+    rw (← a) (record { small = omega arith; inside = omega (arith, starts_within (45 ∷ 49 ∷ []) l at h f) }))
+    (λ f. signed_within (number_at l at) refl (rw f at e))
   where
-    signed_inside : (x : Option (ℕ × ℕ)) → number_at l at ≡ x → as_production x ≡ Some (p, n) → n ≤ length l
-    signed_inside (Some (v, m)) q r = rw (one_pair r).1 at (number_within l at v m h q).inside
-    signed_inside None q r = no_pair r
+    signed_within : (x : Option (ℕ × ℕ)) → number_at l at ≡ x → as_production x ≡ Some (p, n)
+        → Within l (code (accepting p)) n 100001
+    signed_within (Some (v, m)) q r =
+        let w = number_within l at v m h q in
+        let a = (one_pair r).0 in
+        let b = (one_pair r).1 in
+        rw (← a) (record { small = omega (arith, w.small); inside = omega (arith, w.inside) })
+    signed_within None q r = no_pair r
 
 module _ (l : List ℕ) (at : ℕ) (w : List ℕ) (h : at ≤ length l) where
   pub field_within : (v n : ℕ) → field_at l at w ≡ Some (v, n) → Within l v n 100000
@@ -106,10 +116,10 @@ module _ (l : List ℕ) (at : ℕ) (w : List ℕ) (h : at ≤ length l) where
       (λ f. number_within l (at + length w) v n (starts_within w l at h f) (rw f at e))
       (λ f. no_pair (rw f at e))
 
-  pub last_inside : (p : ℤ) (n : ℕ) → last_at l at w ≡ Some (p, n) → n ≤ length l
+  pub last_within : (p : ℤ) (n : ℕ) → last_at l at w ≡ Some (p, n) → Within l (code (accepting p)) n 100001
   unfolding last_at
-  last_inside p n e = by_test (starts w (drop at l))
-      (λ f. production_inside l (at + length w) p n (starts_within w l at h f) (rw f at e))
+  last_within p n e = by_test (starts w (drop at l))
+      (λ f. production_within l (at + length w) p n (starts_within w l at h f) (rw f at e))
       (λ f. no_pair (rw f at e))
 
   -- the same of what was answered
@@ -118,5 +128,5 @@ module _ (l : List ℕ) (at : ℕ) (w : List ℕ) (h : at ≤ length l) where
   field_known None e = tt
 
   pub last_known : (o : Option (ℤ × ℕ)) → o ≡ last_at l at w → IfSome o (λ p. p.1 ≤ length l)
-  last_known (Some (p, n)) e = last_inside p n (sym e)
+  last_known (Some (p, n)) e = (last_within p n (sym e)).inside
   last_known None e = tt
