@@ -16,6 +16,14 @@ use rows::{Rows, numbers};
 // A tree has at most so many rows: one fewer than states.
 const MOST_ROWS: usize = 1023;
 
+// Whole rows that passed the checks, and no more than a tree has.
+#[derive(Clone, Copy)]
+pub struct WholeRows<'a> {
+    pub rows: Rows<'a>,
+    ghost few: { length rows.numbers.now ≤ 4092 },
+    ghost whole: { length rows.numbers.now / 4 * 4 ≡ length rows.numbers.now },
+}
+
 // n rows that rise, each within its bounds. That they are a tree give asks: held here, grow would ask more of callers.
 #[derive(Drop)]
 pub struct Growing {
@@ -39,13 +47,12 @@ impl Growing {
 
     // The rows of a table that passed the checks take the place of those before. Made in place, and not returned: that
     // was measured as slower.
-    pub fn copy(&mut self, rows: Rows)
-        requires { (length rows.numbers.now ≤ 4092)
-            × (length rows.numbers.now / 4 * 4 ≡ length rows.numbers.now) }
-        ensures is { rows_of self.new ≡ rows_in rows.entry.numbers.now }
-        ensures rest { drop (length rows.entry.numbers.now) (seen self.new)
-            ≡ drop (length rows.entry.numbers.now) (seen self.old) }
+    pub fn copy(&mut self, lent: WholeRows)
+        ensures is { rows_of self.new ≡ rows_in lent.entry.rows.numbers.now }
+        ensures rest { drop (length lent.entry.rows.numbers.now) (seen self.new)
+            ≡ drop (length lent.entry.rows.numbers.now) (seen self.old) }
     {
+        let rows = lent.rows;
         self.spread.copy(rows.numbers);
         self.n = rows.count();
     }

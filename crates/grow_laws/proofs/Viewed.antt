@@ -1,18 +1,16 @@
 -- The array seen from a row on: what is read, written, lent and given back there.
 -- Assumes nothing.
 use mathlib.Core.Path.{◌≡◌, ap, sym, ◌∙◌}
-use Rattle.std.specs.Prelude.{Result, Ok, Err}
 use mathlib.Core.List.{List, [], ◌++◌, append-nil}
 use Prim.Native.Nat.{ℕ, ◌+◌, ◌-◌, ◌*◌, ◌<◌, ◌≤◌}
 use native.Mathlib.Omega.{arith}
-use lib.ListN.{length, take, drop, set, length-drop, drop_of_length-le}
-use lib.Seq.{length-take-le, take_all, drop_at, drop-drop, drop-set-add}
+use lib.ListN.{length, take, drop, length-drop, drop_of_length-le}
+use lib.Seq.{length-take-le, take_all, drop_at, drop-drop}
 use lib.IntN.{ℤ}
 use Rattle.rows.specs.Places.{row_at}
-use Rattle.search.specs.Search.{Finds}
 use Rattle.rows.proofs.Passing.{fit_at}
 use Rattle.grow_laws.specs.Moves.{opened, inserted, put_in, Inserted, Slid}
-use Rattle.grow_laws.specs.Held.{view, row_held, Laid, Seeks}
+use Rattle.grow_laws.specs.Held.{view, row_held, Laid}
 use Rattle.grow_laws.proofs.Shifted.{slid_rows}
 use Rattle.grow_laws.proofs.Written.{held_numbers}
 use Rattle.grow_laws.proofs.Placed.{room}
@@ -25,10 +23,10 @@ part buf a size = take (size - a) (drop a buf)
 abbrev pub back : List ℤ → ℕ → ℕ → List ℤ → List ℤ
 back buf a size ys = take a buf ++ (ys ++ drop (size - a) (drop a buf))
 
-part_is : (buf : List ℤ) (a size : ℕ) → size ≡ length buf → part buf a size ≡ drop a buf
+pub part_is : (buf : List ℤ) (a size : ℕ) → size ≡ length buf → part buf a size ≡ drop a buf
 part_is buf a size e = take_all (size - a) (drop a buf) (omega (arith, e, length-drop a buf))
 
-back_is : (buf : List ℤ) (a size : ℕ) (ys : List ℤ) → size ≡ length buf → a ≤ length buf
+pub back_is : (buf : List ℤ) (a size : ℕ) (ys : List ℤ) → size ≡ length buf → a ≤ length buf
     → drop a (back buf a size ys) ≡ ys
 back_is buf a size ys w h =
     let e : drop (size - a) (drop a buf) ≡ [] =

@@ -7,7 +7,7 @@ use mathlib.Core.List.{List, [], ◌∷◌, ◌++◌}
 use Prim.Native.Nat.{ℕ, zero, suc, ◌+◌, ◌*◌, ◌<◌, ◌≤◌}
 use native.Mathlib.Omega.{arith}
 use lib.ListN.{length, get_or, take, drop}
-use lib.Seq.{length-take-le, get_or-take, take-nil}
+use lib.Seq.{length-take-le, take-nil}
 use lib.IntN.{ℤ, pos, negsuc}
 use Rattle.laws.proofs.Every.{first_of, second_of}
 use Rattle.paper.specs.Rows.{Row, natural, accepting, signed, rows_in, numbers}

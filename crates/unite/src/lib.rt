@@ -8,7 +8,7 @@ ghost use Rattle.paper.specs.Unite.{united, unite};
 ghost use Rattle.rows.specs.Places.{given};
 ghost use Rattle.unite_taking.specs.Taking.{Overflows, Refuses, joining};
 
-use grow::Growing;
+use grow::{Growing, WholeRows};
 use paper::{Heading, Mode, Production, Refusal, Table};
 use rows::numbers;
 use ruled::Tree;
@@ -47,7 +47,7 @@ fn joined(
         (rows_in second.entry.rows.numbers.now)) result out.old out.new }
 {
     let mut growing = Growing::empty();
-    growing.copy(first.rows);
+    growing.copy(WholeRows { rows: first.rows });
     match unite_taking::take_rows(mode, &mut growing, second) {
         Ok(()) => Ok(growing.finish(prod0, k, out)),
         Err(Refusal::Full) => full(mode, first, second),

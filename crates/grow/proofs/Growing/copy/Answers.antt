@@ -6,11 +6,11 @@ pub invariant_of-self : goal.invariant_of-self
 invariant_of-self c =
     let s = c.copy.new.self in
     record {
-      laid = begun_laid c.args.rows.numbers.now (view s.buf s.lo) _ c.copy.ensures.put c.count-self.ensures c.requires.1
-          c.requires.0 s.room c.args.rows.passed;
+      laid = begun_laid c.args.lent.rows.numbers.now (view s.buf s.lo) _ c.copy.ensures.put c.count-self.ensures
+          c.args.lent.whole c.args.lent.few s.room c.args.lent.rows.passed;
     }
 
 pub returns-clause-is : goal.returns-clause-is
 returns-clause-is c =
     let s = c.copy.new.self in
-    begun_rows c.args.rows.numbers.now (view s.buf s.lo) _ c.copy.ensures.put c.count-self.ensures c.requires.1
+    begun_rows c.args.lent.rows.numbers.now (view s.buf s.lo) _ c.copy.ensures.put c.count-self.ensures c.args.lent.whole
