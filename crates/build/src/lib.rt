@@ -25,12 +25,21 @@ fn checked(list: StringList, room: usize) -> Result<Production, Refusal>
     Ok(Production(q))
 }
 
-// The strings in rows of their own, and those rows at the front of the output.
+// The strings in rows of their own, and those rows at the front of the output. No strings make state 0 accept, alone:
+// no array is cleared for them, since intake's call may be lent many such lists.
 fn written(production: Production, list: StringList, out: &mut [i32]) -> Result<Heading, Refusal>
     requires { Sane list.tokens.now list.lengths.now (length out.old) }
     ensures { Makes (within (built production.0 (strings list.entry.lengths.now list.entry.tokens.now)))
         result out.old out.new }
 {
+    if list.lengths.is_empty() {
+        return Ok(Heading {
+            prod0: numbers::signed(Some(production)),
+            k: 0,
+            rows: 0,
+            states: 1,
+        });
+    }
     let mut rows = Growing::empty();
     let head = build_strings::add_all(&mut rows, production, list)?;
     Ok(rows.finish(head.prod0, head.k, out))
