@@ -20,7 +20,7 @@ impl<'a> Faces<'a> {
     ghost use Rattle.shrink_alike.specs.Tables.{table_of};
 
     // Whether rows count beside a production: not in archive when it accepts.
-    fn compared(&self, p: Option<Production>) -> bool
+    pub fn compared(&self, p: Option<Production>) -> bool
         ensures { result ≡ compared self.now.mode (given p) }
     {
         match self.mode {
