@@ -12,6 +12,7 @@ use paper::{Refusal, StringList};
 
 // One more list, built and united to what there is. The three arrays are lent apart, not as one struct: unite reads two
 // while it writes the third.
+#[tactic(auto, using(intake_lists::proofs::Joined::join_is, intake_lists::proofs::Joined::unite_as))]
 pub fn join_list(
     list: StringList,
     so_far: &mut Kept,

@@ -13,6 +13,7 @@ use paper::Refusal;
 
 // The lists, one after the other, joined to what there is. An iterator's law would say again what split_first says of
 // the lists that are left.
+#[tactic(auto, using(intake_lists::proofs::Joining::first_joined, intake_lists::proofs::Joining::none_left))]
 fn join_all(
     lists: Lists,
     so_far: &mut Kept,

@@ -5,8 +5,8 @@ ghost use Rattle.ruled.specs.Into.{Marked, row_mark};
 
 use counts::FewRows;
 
-// Rows within their bounds, and for each state the number, plus one, of the first row into it; 0 where there is none: an Option would take
-// twice the room, and the arrays of a call are fixed.
+// Rows within their bounds, and for each state the number, plus one, of the first row into it; 0 where there is none:
+// an Option would take twice the room, and the arrays of a call are fixed.
 #[derive(Clone, Copy)]
 pub struct Marks<'a> {
     pub rows: &'a [i32],

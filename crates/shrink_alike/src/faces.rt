@@ -15,10 +15,11 @@ use ruled::{Ruled, into};
 // No state, in an array over the states: an Option there would take twice the room, and the arrays of a call are fixed.
 pub const NO_STATE: u16 = 65535;
 
-// A table that passed 1 to 6 (what is held of it: 2, 3, 4 and 6), with the first row into each state (its number plus one; 0 where there is none), the
-// first row from each, and one more than the highest state. The methods ask that a state be below 1,024, as an index of
-// its arrays: a type for that would be unwrapped at each. The marks (`class`) stand beside it and not in it, since
-// shrink_classes writes them while it reads the table: a struct of both would be made anew for each state.
+// A table that passed 1 to 6 (what is held of it: 2, 3, 4 and 6), with the first row into each state (its number plus
+// one; 0 where there is none), the first row from each, and one more than the highest state. The methods ask that a
+// state be below 1,024, as an index of its arrays: a type for that would be unwrapped at each. The marks (`class`) stand
+// beside it and not in it, since shrink_classes writes them while it reads the table: a struct of both would be made
+// anew for each state.
 #[derive(Clone, Copy)]
 pub struct Faces<'a> {
     pub mode: Mode,
