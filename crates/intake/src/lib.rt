@@ -23,8 +23,8 @@ fn shrunk(lists: Lists, out: &mut [i32]) -> Result<Heading, Refusal>
     let mut so_far = Kept::empty();
     let mut next = Kept::empty();
     let mut work = [0i32; 16384];
-    intake_joining::unite_all(lists, &mut so_far, &mut next, &mut work)?;
-    intake_steps::finish(&so_far, out)
+    let united = intake_joining::unite_all(lists, &mut so_far, &mut next, &mut work);
+    intake_steps::finish(united, &so_far, out)
 }
 
 // The lists built, united one after the other and shrunk, all in intake mode. Demand 3 of this call is

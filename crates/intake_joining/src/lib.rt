@@ -25,7 +25,7 @@ fn join_all(
 {
     let mut rest = lists;
     while let Some((list, others)) = rest.split_first() {
-        intake_join::join_list(list, so_far, next, work)?;
+        intake_join::join_list(Ok(()), list, so_far, next, work)?;
         rest = others;
     }
     Ok(())

@@ -14,11 +14,13 @@ use Rattle.intake_lists.specs.Held.{held, Holds}
 use Rattle.intake_lists.proofs.NextList.{no_list, join_then, join_none}
 
 -- the first of the lists that are left is joined, then the others
-pub first_joined : (m : Made) (l : Lent) (ls : List Lent) → join_all m (l ∷ ls) ≡ then (join_lent m l) (λ c. join_all c ls)
+pub first_joined : (m : Made) (l : Lent) (ls : List Lent)
+    → join_all m (l ∷ ls) ≡ then (join_lent m l) (λ c. join_all c ls)
 first_joined m l ls = join_then (accept m) l ls
 
 -- no list is left
-pub none_left : (m : Made) (ps : List ℤ) (cs ns ts : List ℕ) → length ps ≡ 0 → join_all m (lists_in ps cs ns ts) ≡ accept m
+pub none_left : (m : Made) (ps : List ℤ) (cs ns ts : List ℕ) → length ps ≡ 0
+    → join_all m (lists_in ps cs ns ts) ≡ accept m
 none_left m ps cs ns ts e = rw (no_list ps cs ns ts e) (join_none (accept m))
 
 -- no list is no table

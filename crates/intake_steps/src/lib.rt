@@ -1,7 +1,7 @@
 // A list built, a table united to it, the last one shrunk: each by its public call, in arrays that the caller holds.
 #![tactic(auto)]
 
-ghost use Rattle.std.specs.Prelude.{◌≡◌, ◌*◌, ◌≤◌, length, take, Ok};
+ghost use Rattle.std.specs.Prelude.{◌≡◌, ◌*◌, ◌≤◌, length, take};
 ghost use Rattle.paper.specs.declared.Mode.TheVariants.{Intake};
 ghost use Rattle.paper.specs.Answers.{then, Makes};
 ghost use Rattle.paper.specs.Build.{build};
@@ -38,10 +38,12 @@ pub fn unite_two(so_far: &mut Kept, second: Table, work: &mut Room) -> Result<()
     Ok(())
 }
 
-// The united table shrunk into the output.
-pub fn finish(last: &Kept, out: &mut [i32]) -> Result<Heading, Refusal>
+// The united table shrunk into the output; where the lists were refused, that refusal.
+pub fn finish(united: Result<(), Refusal>, last: &Kept, out: &mut [i32]) -> Result<Heading, Refusal>
     requires { 16384 ≤ length out.old }
-    ensures { Makes (then (held (Ok last.now.small.heading) last.now.buf) shrink_made) result out.old out.new }
+    ensures { Makes (then (held (answered united last.now.small.heading) last.now.buf) shrink_made)
+        result out.old out.new }
 {
+    united?;
     shrink::shrink(Mode::Intake, last.lent(), out)
 }

@@ -3,8 +3,8 @@
 
 ghost use Rattle.std.specs.Prelude.{◌≡◌, ◌&&◌, ◌+◌, ◌*◌, ◌<◌, length, leb, IfOk};
 ghost use Rattle.paper.specs.Rows.{accepting, table};
-ghost use Rattle.paper.specs.Checks.{row_slice, row_fits, production_fits, shape, plain};
-ghost use Rattle.rows.specs.Places.{row, row_at, bare, given};
+ghost use Rattle.paper.specs.Checks.{row_slice, row_fits, shape, plain};
+ghost use Rattle.rows.specs.Places.{uncoded, row_at, bare, given};
 ghost use Rattle.row_checks.specs.Verdicts.{of_rows, sized, whole, Judges, Sound, Whole};
 
 use paper::{Production, Refusal, Table};
@@ -54,19 +54,19 @@ pub fn row_slice(rows: &[i32]) -> bool
     16384 < n
 }
 
-// 2 RANGE: prod0 and k are within their bounds.
-pub fn head_fits(prod0: i32, k: usize) -> bool
-    ensures { result ≡ (production_fits (accepting prod0) && leb k 16) }
+// 2 RANGE: prod0, by its code, and k are within their bounds.
+pub fn head_fits(code: usize, k: usize) -> bool
+    ensures { result ≡ (leb code 65536 && leb k 16) }
 {
-    if !numbers::production_fits(prod0) {
+    if 65536 < code {
         return false;
     }
     k <= 16
 }
 
-// 2 RANGE: a row's numbers are within their bounds.
-pub fn row_fits(from: usize, terminal: usize, to: usize, production: i32) -> bool
-    ensures { result ≡ row_fits (row from terminal to production) }
+// 2 RANGE: a row's numbers, its production by its code, are within their bounds.
+pub fn row_fits(from: usize, terminal: usize, to: usize, code: usize) -> bool
+    ensures { result ≡ row_fits (record { from = from; terminal = terminal; to = to; production = uncoded code }) }
 {
     if 1023 < from {
         return false;
@@ -77,7 +77,7 @@ pub fn row_fits(from: usize, terminal: usize, to: usize, production: i32) -> boo
     if 1023 < to {
         return false;
     }
-    numbers::production_fits(production)
+    code <= 65536
 }
 
 // The same of row i: each number is tested as it is read; reading all four first was measured as slower.
@@ -136,7 +136,7 @@ pub fn plain<'a>(lent: Table<'a>) -> Result<Checked<'a>, Refusal>
     ensures judges { Judges (plain (table lent.entry.prod0 lent.entry.k lent.entry.rows.now)) result }
     ensures same { IfOk result (λ t. t.table ≡ lent.entry) }
 {
-    if !head_fits(lent.prod0, lent.k) {
+    if !head_fits(numbers::coded(lent.prod0), lent.k) {
         return Err(Refusal::Range);
     }
     in_one_pass(lent.rows)?;

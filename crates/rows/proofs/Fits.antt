@@ -1,7 +1,7 @@
 -- The tests of RANGE, as the code makes them one after the other.
 -- Assumes nothing.
-use mathlib.Core.Path.{◌≡◌, refl, ◌∙◌}
-use mathlib.Core.Bool.{true, false, not, ◌&&◌}
+use mathlib.Core.Path.{◌≡◌, refl, ap, ◌∙◌}
+use mathlib.Core.Bool.{Bool, true, false, not, ◌&&◌}
 use mathlib.Core.Option.{Option, none, some}
 use mathlib.Core.List.{List}
 use Prim.Native.Nat.{ℕ, ◌/◌, ◌≤◌, ◌<◌}
@@ -19,6 +19,10 @@ pub code_fits : (p : Option ℕ) → leb (code p) 65536 ≡ production_fits p
 unfolding production_fits
 code_fits none = refl
 code_fits (some q) = leb-suc-suc q 65535
+
+-- prod0 by its code, and k
+pub head_coded : (p : Option ℕ) (k c : ℕ) → c ≡ code p → (leb c 65536 && leb k 16) ≡ (production_fits p && leb k 16)
+head_coded p k c e = ap (λ (b : Bool). b && leb k 16) (ap (λ (n : ℕ). leb n 65536) e ∙ code_fits p)
 
 module _ (r : Row) where
   pub from_out : 1023 < r.from → false ≡ row_fits r

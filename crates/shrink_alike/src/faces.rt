@@ -17,9 +17,9 @@ pub const NO_STATE: u16 = 65535;
 
 // A table that passed 1 to 6 (what is held of it: 2, 3, 4 and 6), with the first row into each state (its number plus
 // one; 0 where there is none), the first row from each, and one more than the highest state. The methods ask that a
-// state be below 1,024, as an index of its arrays: a type for that would be unwrapped at each. The marks (`class`) stand
-// beside it and not in it, since shrink_classes writes them while it reads the table: a struct of both would be made
-// anew for each state.
+// state be below 1,024, as an index of its arrays: a type for that would be unwrapped at each. The marks (`class`)
+// stand beside it and not in it, since shrink_classes writes them while it reads the table: a struct of both would be
+// made anew for each state.
 #[derive(Clone, Copy)]
 pub struct Faces<'a> {
     pub mode: Mode,
@@ -66,7 +66,7 @@ impl<'a> Faces<'a> {
     }
 
     // A state's production: that of the first row into it, prod0 where there is none.
-    pub fn production(&self, s: usize) -> Option<Production>
+    pub(crate) fn production(&self, s: usize) -> Option<Production>
         requires { s < 1024 }
         ensures { given result ≡ production_at (table_of self.now) s }
     {

@@ -1,13 +1,16 @@
 // Two states that become one: equal production and, where rows count, equal rows by their marks.
 ghost use Rattle.std.specs.Prelude.{◌≡◌, ◌/◌, ◌<◌, ◌≤◌, length};
 ghost use Rattle.paper.specs.Rows.{rows_in};
-ghost use Rattle.paper.specs.Shrink.{rows_of, redirect};
-ghost use Rattle.rows.specs.Places.{code, given};
+ghost use Rattle.paper.specs.Shrink.{production_of, rows_of, redirect};
+ghost use Rattle.rows.specs.Places.{code, uncoded, given};
 ghost use Rattle.merging.specs.Marks.{compared};
+ghost use Rattle.shrink_alike.specs.Index.{Indexed};
 ghost use Rattle.shrink_alike.specs.Faces.{mark_in, like, hash, sign, same_row, rows_alike};
 
 use crate::faces::Faces;
 use paper::{Mode, Production};
+use rows::numbers;
+use ruled::into;
 
 // The code of a production: 0 for none, else one more than it.
 fn code(p: Option<Production>) -> usize
@@ -16,17 +19,41 @@ fn code(p: Option<Production>) -> usize
     p.map_or(0, |q| q.0 as usize + 1)
 }
 
+// The code of a state's production: that of the first row into it, p0 where there is none.
+pub fn production(
+    p0: usize,
+    rows: &[i32],
+    into: &[u16; 1024],
+    first: &[u16; 1024],
+    s: usize,
+) -> usize
+    requires { Indexed rows.now into.now first.now × (s < 1024) }
+    ensures { result ≡ code (production_of (uncoded p0) (rows_in rows.now) s) }
+{
+    match into::first_row(into, s) {
+        None => p0,
+        Some(i) => numbers::coded(numbers::production_at(rows, i)),
+    }
+}
+
+// Whether rows count beside a production, by its code: not in archive when it accepts.
+pub fn compared(mode: Mode, p: usize) -> bool
+    ensures { result ≡ compared mode (uncoded p) }
+{
+    match mode {
+        Mode::Intake => true,
+        Mode::Archive => p == 0,
+    }
+}
+
 impl<'a> Faces<'a> {
     ghost use Rattle.shrink_alike.specs.Tables.{table_of};
 
-    // Whether rows count beside a production: not in archive when it accepts.
-    pub fn compared(&self, p: Option<Production>) -> bool
+    // Whether rows count beside a production.
+    fn compared(&self, p: Option<Production>) -> bool
         ensures { result ≡ compared self.now.mode (given p) }
     {
-        match self.mode {
-            Mode::Intake => true,
-            Mode::Archive => p.is_none(),
-        }
+        compared(self.mode, code(p))
     }
 
     // A number of a state's rows by marks, after the number h.

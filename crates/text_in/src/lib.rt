@@ -2,6 +2,7 @@
 #![tactic(auto)]
 
 use paper::{Refusal, Title};
+use rows::numbers;
 use text_lines::reading;
 
 mod passes;
@@ -23,7 +24,7 @@ pub fn text_in(text: &[u8], out: &mut [i32]) -> Result<Title, Refusal>
     if 4096 < tally.rows {
         return Err(Refusal::Length);
     }
-    if !row_checks::head_fits(head.prod0, head.k) || !tally.fits {
+    if !row_checks::head_fits(numbers::coded(head.prod0), head.k) || !tally.fits {
         return Err(Refusal::Range);
     }
     if !tally.rising {

@@ -26,9 +26,10 @@ fn tallied(tally: Tally, row: RowLine) -> Tally
     ensures { result ≡ tallied tally (read_row row) }
 {
     let key = row.from * 65536 + row.terminal;
+    let code = numbers::coded(row.production);
     Tally {
         rows: tally.rows + 1,
-        fits: tally.fits && row_checks::row_fits(row.from, row.terminal, row.to, row.production),
+        fits: tally.fits && row_checks::row_fits(row.from, row.terminal, row.to, code),
         rising: tally.rising && tally.least <= key,
         least: key + 1,
     }

@@ -5,6 +5,7 @@ use borrow.Author.Tests.{not-true, not-false}
 use Rattle.std.proofs.lemmas.Result.{err_from_is_err_and}
 use Rattle.paper.specs.declared.Refusal.TheVariants.{Length, Range, Order, Text}
 use Rattle.rows.proofs.Signed.{same}
+use Rattle.rows.proofs.Fits.{head_coded}
 use Rattle.text_lines.proofs.Small.{head_from_at}
 use Rattle.text_in.proofs.In.{refused, in_room, in_head, in_bad, in_many, in_range_head, in_range_rows, in_order, in_table, ready}
 use Rattle.text_in.proofs.text_in.Goals as goal
@@ -39,7 +40,8 @@ returns-then-not-head_fits c =
     let head = sym c.head_from.ensures.value ∙ c.in_ok-head.ensures.ok_part in
     let all = sym c.in_ok-tally.ensures in
     let few = c.if-tally-gt4096.false in
-    let fits = rw (same c.in_ok-head.head.prod0 (search rules)) at c.head_fits.ensures in
+    let coded = rw (same c.in_ok-head.head.prod0 (search rules)) at c.coded.ensures.is in
+    let fits = c.head_fits.ensures ∙ head_coded _ c.in_ok-head.head.k _ coded in
     elim c.then-not-head_fits.branch [
       | then-not-head_fits-via-then-not-head_fits w ↦
           refused Range (in_range_head _ _ wide _ head _ all few (sym fits ∙ w.if-not-head_fits.true))
@@ -53,7 +55,8 @@ returns-then-not-tally-2 c =
     let head = sym c.head_from.ensures.value ∙ c.in_ok-head.ensures.ok_part in
     let all = sym c.in_ok-tally.ensures in
     let few = c.if-tally-gt4096.false in
-    let fits = rw (same c.in_ok-head.head.prod0 (search rules)) at c.head_fits.ensures in
+    let coded = rw (same c.in_ok-head.head.prod0 (search rules)) at c.coded.ensures.is in
+    let fits = c.head_fits.ensures ∙ head_coded _ c.in_ok-head.head.k _ coded in
     let ranged = sym fits ∙ c.if-not-head_fits.false in
     refused Order (in_order _ _ wide _ head _ all few ranged (not-false _ c.if-not-tally.false)
     (not-true _ c.if-not-tally-2.true))
@@ -64,7 +67,8 @@ fill-requires c =
     let head = sym c.head_from.ensures.value ∙ c.in_ok-head.ensures.ok_part in
     let all = sym c.in_ok-tally.ensures in
     let few = c.if-tally-gt4096.false in
-    let fits = rw (same c.in_ok-head.head.prod0 (search rules)) at c.head_fits.ensures in
+    let coded = rw (same c.in_ok-head.head.prod0 (search rules)) at c.coded.ensures.is in
+    let fits = c.head_fits.ensures ∙ head_coded _ c.in_ok-head.head.k _ coded in
     let ranged = sym fits ∙ c.if-not-head_fits.false in
     ((head_from_at _ _ _ head).inside, ready _ _ wide _ head _ all few ranged (not-false _ c.if-not-tally.false))
 
@@ -74,7 +78,8 @@ returns c =
     let head = sym c.head_from.ensures.value ∙ c.in_ok-head.ensures.ok_part in
     let all = sym c.in_ok-tally.ensures in
     let few = c.if-tally-gt4096.false in
-    let fits = rw (same c.in_ok-head.head.prod0 (search rules)) at c.head_fits.ensures in
+    let coded = rw (same c.in_ok-head.head.prod0 (search rules)) at c.coded.ensures.is in
+    let fits = c.head_fits.ensures ∙ head_coded _ c.in_ok-head.head.k _ coded in
     let ranged = sym fits ∙ c.if-not-head_fits.false in
     rw (same c.in_ok-head.head.prod0 (search rules)) (in_table _ _ wide _ head _ all few ranged
     (not-false _ c.if-not-tally.false) (not-false _ c.if-not-tally-2.false) _ _ c.fill.ensures)
