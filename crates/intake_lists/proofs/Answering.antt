@@ -18,6 +18,11 @@ pub shrunk_held : (g : Ruling Made) (united : Result Heading Refusal) (a : List 
     Makes (then g shrink_made) r old new
 shrunk_held g united a h r old new m = rw h.is at m
 
+-- a list was refused: so is the call
+pub shrunk_refused : (g : Ruling Made) (f : Refusal) (a : List ℤ) → Holds g (Err f) a → (old : List ℤ)
+    → Makes (then g shrink_made) (Err f) old old
+shrunk_refused g f a h old = shrunk_held g (Err f) a h (Err f) old old (record { says = refl; holds = refl })
+
 module _ (ps : List ℤ) (cs ns ts : List ℕ) (room : ℕ) (old : List ℤ) where
   pub refused_lengths : lists_lengths ps cs ns ts room ≡ true →
       Makes (table_of ps cs ns ts room) (Err refusal.Length) old old

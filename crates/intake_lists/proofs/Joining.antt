@@ -1,5 +1,5 @@
--- The lists joined one after the other: the first of them, and the end. Assumes nothing.
-use mathlib.Core.Path.{◌≡◌, refl, ap}
+-- The lists joined one after the other: the first of them, one turn, and the end. Assumes nothing.
+use mathlib.Core.Path.{◌≡◌, refl, ap, sym, ◌∙◌}
 use mathlib.Core.List.{List, [], ◌∷◌}
 use Prim.Native.Nat.{ℕ}
 use lib.ListN.{length}
@@ -22,6 +22,23 @@ first_joined m l ls = join_then (accept m) l ls
 pub none_left : (m : Made) (ps : List ℤ) (cs ns ts : List ℕ) → length ps ≡ 0
     → join_all m (lists_in ps cs ns ts) ≡ accept m
 none_left m ps cs ns ts e = rw (no_list ps cs ns ts e) (join_none (accept m))
+
+-- what there is, joined with the lists that are left
+module _ (g : Ruling Made) (l : Lent) (ls : List Lent) where
+  pub joined_next : (h : Heading) (a : List ℤ) → Holds (then g (λ m. join_lent m l)) (Ok h) a
+      → then (held (Ok h) a) (λ m. join_all m ls) ≡ then g (λ m. join_all m (l ∷ ls))
+  joined_next h a s = ap (λ (r : Ruling Made). then r (λ m. join_all m ls)) s.is ∙ sym (join_then g l ls)
+
+  pub joined_refused : (f : Refusal) (a b : List ℤ) → Holds (then g (λ m. join_lent m l)) (Err f) a
+      → Holds (then g (λ m. join_all m (l ∷ ls))) (Err f) b
+  joined_refused f a b s = record {
+    is = ap (λ (r : Ruling Made). then r (λ m. join_all m ls)) s.is ∙ sym (join_then g l ls);
+    few = tt;
+  }
+
+pub joined_all : (g : Ruling Made) (h : Heading) (a : List ℤ) → then (held (Ok h) a) (λ m. join_all m []) ≡ g
+    → held (Ok h) a ≡ g
+joined_all g h a e = sym (join_none (held (Ok h) a)) ∙ e
 
 -- no list is no table
 pub none_refused : (ls : List Lent) → ls ≡ [] → (b : List ℤ) → Holds (unite_all ls) (Err refusal.Length) b
