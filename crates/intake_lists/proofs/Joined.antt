@@ -59,7 +59,7 @@ pub join_is : (m : Made) (l : Lent)
 unfolding join_lent build_lent
 join_is m l = refl
 
--- It is refused.
+-- The next list is refused.
 pub join_refused : (p : ℤ) (k n s : ℕ) (a : List ℤ) (l : Lent) (r : Result Heading Refusal) (f : Refusal) (b c : List ℤ)
     → r ≡ Err f → Holds (build l.production l.tokens l.lengths 16384) r b
     → Holds (then (held (Ok (record { prod0 = p; k = k; rows = n; states = s })) a) (λ m. join_lent m l)) r c

@@ -25,16 +25,17 @@ none_left m ps cs ns ts e = rw (no_list ps cs ns ts e) (join_none (accept m))
 
 -- what there is, joined with the lists that are left
 module _ (g : Ruling Made) (l : Lent) (ls : List Lent) where
+  joined : (r : Result Heading Refusal) (a : List ℤ) → Holds (then g (λ m. join_lent m l)) r a
+      → then (held r a) (λ m. join_all m ls) ≡ then g (λ m. join_all m (l ∷ ls))
+  joined r a s = ap (λ (x : Ruling Made). then x (λ m. join_all m ls)) s.is ∙ sym (join_then g l ls)
+
   pub joined_next : (h : Heading) (a : List ℤ) → Holds (then g (λ m. join_lent m l)) (Ok h) a
       → then (held (Ok h) a) (λ m. join_all m ls) ≡ then g (λ m. join_all m (l ∷ ls))
-  joined_next h a s = ap (λ (r : Ruling Made). then r (λ m. join_all m ls)) s.is ∙ sym (join_then g l ls)
+  joined_next h a s = joined (Ok h) a s
 
   pub joined_refused : (f : Refusal) (a b : List ℤ) → Holds (then g (λ m. join_lent m l)) (Err f) a
       → Holds (then g (λ m. join_all m (l ∷ ls))) (Err f) b
-  joined_refused f a b s = record {
-    is = ap (λ (r : Ruling Made). then r (λ m. join_all m ls)) s.is ∙ sym (join_then g l ls);
-    few = tt;
-  }
+  joined_refused f a b s = record { is = joined (Err f) a s; few = tt }
 
 pub joined_all : (g : Ruling Made) (h : Heading) (a : List ℤ) → then (held (Ok h) a) (λ m. join_all m []) ≡ g
     → held (Ok h) a ≡ g
